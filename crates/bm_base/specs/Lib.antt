@@ -1,0 +1,10 @@
+pub mod Entry
+pub mod Machine
+pub mod Mask
+pub mod Memory
+pub mod NamedEntry
+pub mod Names
+pub mod Numeral
+pub mod Spec
+pub mod Store
+pub mod Word
