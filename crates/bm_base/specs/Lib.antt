@@ -1,4 +1,5 @@
 pub mod Entry
+pub mod Held
 pub mod Machine
 pub mod Mask
 pub mod Memory
@@ -6,5 +7,4 @@ pub mod NamedEntry
 pub mod Names
 pub mod Numeral
 pub mod Spec
-pub mod Store
 pub mod Word
