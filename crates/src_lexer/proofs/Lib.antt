@@ -1,0 +1,3 @@
+pub mod SymbolFacts
+pub mod Unique
+pub mod Order

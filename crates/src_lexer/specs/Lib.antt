@@ -1,0 +1,3 @@
+pub mod Symbols
+pub mod Spell
+pub mod Laws

@@ -1,0 +1,5 @@
+pub mod Equations
+pub mod Way
+pub mod Again
+pub mod Whole
+pub mod Derived

@@ -1,0 +1,7 @@
+pub mod Operators
+pub mod Text
+pub mod Grammar
+pub mod Limits
+pub mod Plain
+pub mod Same
+pub mod Laws
