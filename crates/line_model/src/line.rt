@@ -1,0 +1,160 @@
+// Lines, and the streams and the queue that they give.
+ghost use Rattle.std.specs.Prelude.{◌≡◌, ◌++◌, ◌∷◌, [], IfOk, OnOk, OnErr};
+ghost use Rattle.line_model.specs.Streams.{stream, masks, item_for};
+
+use bm_base::Mask;
+use std::alloc::{AllocError, Global};
+use std::marker::Model;
+
+/// One item of a line.
+#[derive(Clone, Copy, Debug, PartialEq, Eq)]
+pub enum Item {
+    /// A processor runs the tuple of this number.
+    Run { processor: u8, tuple: u8 },
+    /// The members of the mask wait for one another.
+    Bar { mask: Mask },
+}
+
+/// One item of a processor's stream.
+#[derive(Clone, Copy, Debug, PartialEq, Eq)]
+pub enum StreamItem {
+    /// The tuple of this number is run.
+    Do { tuple: u8 },
+    /// The processor waits. A wait names no barrier: a processor's k-th wait is for the k-th mask
+    /// of the queue that has it.
+    Wait,
+}
+
+/// The items of a line. Contracts see the list.
+#[derive(Drop)]
+pub struct Items {
+    list: Vec<Item>,
+}
+
+impl Model for Items {
+    ghost use Rattle.std.specs.Prelude.{List};
+    ghost use Rattle.line_model.specs.declared.line.Item.{Item};
+
+    ghost Value = { List Item };
+
+    ghost view = { λ t. t.list.items };
+}
+
+impl Items {
+    /// No items. It takes no memory.
+    pub fn new(alloc: Global) -> Items
+        ensures { result ≡ [] }
+    {
+        Items {
+            list: Vec::new(alloc),
+        }
+    }
+
+    /// Puts an item at the end; want of memory changes nothing.
+    pub fn push(&mut self, item: Item) -> Result<(), AllocError>
+        ensures ok { OnOk result (self.new ≡ self.old ++ item ∷ []) }
+        ensures err { OnErr result (self.new ≡ self.old) }
+    {
+        self.list.push(item)?;
+        Ok(())
+    }
+
+    /// The items in order.
+    pub fn items(&self) -> &[Item]
+        ensures { result.now ≡ self.now }
+    {
+        &self.list
+    }
+}
+
+/// A line: the runs and barriers of one block in order.
+#[derive(Drop)]
+pub struct Line {
+    /// The items.
+    pub items: Items,
+}
+
+/// What the item is to processor p, where it is anything to it.
+fn own_item(item: Item, p: u8) -> Option<StreamItem>
+    ensures { result ≡ item_for p item }
+{
+    match item {
+        Item::Run { processor, tuple } if processor == p => Some(StreamItem::Do { tuple }),
+        Item::Bar { mask } if mask.has(p) => Some(StreamItem::Wait),
+        _ => None,
+    }
+}
+
+impl Line {
+    /// Processor p's stream: its tuples in order, with a wait at each barrier that has it. It is
+    /// empty for a processor without items.
+    pub fn stream(&self, alloc: Global, p: u8) -> Result<Vec<StreamItem>, AllocError>
+        ensures { IfOk result (λ items. items.items ≡ stream p self.now.items) }
+    {
+        let mut items = Vec::new(alloc);
+        for item in self.items.items() {
+            if let Some(own) = own_item(*item, p) {
+                items.push(own)?;
+            }
+        }
+        Ok(items)
+    }
+
+    /// The queue of masks: those of the barriers, in order.
+    pub fn masks(&self, alloc: Global) -> Result<Vec<Mask>, AllocError>
+        ensures { IfOk result (λ queue. queue.items ≡ masks self.now.items) }
+    {
+        let mut queue = Vec::new(alloc);
+        for item in self.items.items() {
+            if let Item::Bar { mask } = *item {
+                queue.push(mask)?;
+            }
+        }
+        Ok(queue)
+    }
+}
+
+#[cfg(test)]
+mod tests {
+    use super::*;
+    use std::test::Fail;
+
+    // Tuple 0 on processor 0, then a barrier of 0 and 1, then tuples 2 and 3 on 1 and 0.
+    #[test]
+    fn a_barrier_is_a_wait_of_each_member(rt: HostRuntime) -> Result<(), Fail> {
+        let mut mask = Mask::empty();
+        mask.insert(0);
+        mask.insert(1);
+        let mut items = Items::new(rt.alloc());
+        items.push(Item::Run {
+            processor: 0,
+            tuple: 0,
+        })?;
+        items.push(Item::Bar { mask })?;
+        items.push(Item::Run {
+            processor: 1,
+            tuple: 2,
+        })?;
+        items.push(Item::Run {
+            processor: 0,
+            tuple: 3,
+        })?;
+        let line = Line { items };
+        let (zero, two, three) = (
+            StreamItem::Do { tuple: 0 },
+            StreamItem::Do { tuple: 2 },
+            StreamItem::Do { tuple: 3 },
+        );
+        assert_eq!(rt;
+            line.stream(rt.alloc(), 0)?.as_slice(),
+            [zero, StreamItem::Wait, three].as_slice()
+        );
+        assert_eq!(rt;
+            line.stream(rt.alloc(), 1)?.as_slice(),
+            [StreamItem::Wait, two].as_slice()
+        );
+        assert_eq!(rt; line.stream(rt.alloc(), 64)?.len(), 0);
+        assert_eq!(rt; line.masks(rt.alloc())?.as_slice(), [mask].as_slice());
+        Ok(())
+    }
+}

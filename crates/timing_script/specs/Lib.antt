@@ -1,0 +1,3 @@
+pub mod Duration
+pub mod Script
+pub mod Within

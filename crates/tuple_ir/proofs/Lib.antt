@@ -1,0 +1,4 @@
+pub mod WorldFacts
+pub mod Serial
+pub mod Growth
+pub mod Trails

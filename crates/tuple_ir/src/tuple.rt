@@ -1,0 +1,122 @@
+// Tuples: the instructions of a block.
+ghost use Rattle.std.specs.Prelude.{◌≡◌};
+ghost use Rattle.tuple_ir.specs.Kinds.{class_of, has_value};
+
+use bm_base::{Bin, Class, Un};
+
+/// One instruction of a block. It is numbered by its place in the block, from 0, and has a cell of
+/// that number. Operands (`value`, `index`, `a`, `b`) are the cells of earlier tuples of the block;
+/// `name` is the number of a declared name.
+#[derive(Clone, Copy, Debug, PartialEq, Eq)]
+pub enum Tuple {
+    /// Gives the word `value`.
+    Const { value: i64 },
+    /// Gives the value of a variable.
+    Load { name: u16 },
+    /// Writes a cell's value to a variable.
+    Store { name: u16, value: u8 },
+    /// Gives the element of an array at a cell's value.
+    LoadEl { name: u16, index: u8 },
+    /// Writes a cell's value to the element of an array at another cell's value.
+    StoreEl { name: u16, index: u8, value: u8 },
+    /// Gives the value of a unary operator.
+    One { op: Un, a: u8 },
+    /// Gives the value of a binary operator.
+    Two { op: Bin, a: u8, b: u8 },
+    /// Prints a cell's value.
+    Print { value: u8 },
+}
+
+/// The class of a tuple, which decides its times: `Mul` for a product, `Div` for a quotient or a
+/// remainder, `Alu` for every other operator.
+pub fn class(tuple: Tuple) -> Class
+    ensures { result ≡ class_of tuple }
+{
+    match tuple {
+        Tuple::Const { .. } => Class::Const,
+        Tuple::Load { .. } => Class::Load,
+        Tuple::Store { .. } => Class::Store,
+        Tuple::LoadEl { .. } => Class::LoadEl,
+        Tuple::StoreEl { .. } => Class::StoreEl,
+        Tuple::Two { op: Bin::Mul, .. } => Class::Mul,
+        Tuple::Two { op: Bin::Div, .. } => Class::Div,
+        Tuple::Two { op: Bin::Rem, .. } => Class::Div,
+        Tuple::One { .. } | Tuple::Two { .. } => Class::Alu,
+        Tuple::Print { .. } => Class::Print,
+    }
+}
+
+/// Whether a tuple leaves a value in its cell: all do but `Store`, `StoreEl` and `Print`.
+pub fn gives_value(tuple: Tuple) -> bool
+    ensures { result ≡ has_value tuple }
+{
+    match tuple {
+        Tuple::Store { .. } | Tuple::StoreEl { .. } | Tuple::Print { .. } => false,
+        _ => true,
+    }
+}
+
+#[cfg(test)]
+mod tests {
+    use super::*;
+
+    #[test]
+    fn tuples_have_their_classes_and_values(rt: HostRuntime) {
+        for (tuple, want, value) in [
+            (Tuple::Const { value: -1 }, Class::Const, true),
+            (Tuple::Load { name: 3 }, Class::Load, true),
+            (Tuple::Store { name: 3, value: 0 }, Class::Store, false),
+            (Tuple::LoadEl { name: 4, index: 0 }, Class::LoadEl, true),
+            (
+                Tuple::StoreEl {
+                    name: 4,
+                    index: 0,
+                    value: 1,
+                },
+                Class::StoreEl,
+                false,
+            ),
+            (Tuple::One { op: Un::Not, a: 0 }, Class::Alu, true),
+            (
+                Tuple::Two {
+                    op: Bin::Shl,
+                    a: 0,
+                    b: 1,
+                },
+                Class::Alu,
+                true,
+            ),
+            (
+                Tuple::Two {
+                    op: Bin::Mul,
+                    a: 0,
+                    b: 1,
+                },
+                Class::Mul,
+                true,
+            ),
+            (
+                Tuple::Two {
+                    op: Bin::Div,
+                    a: 0,
+                    b: 1,
+                },
+                Class::Div,
+                true,
+            ),
+            (
+                Tuple::Two {
+                    op: Bin::Rem,
+                    a: 0,
+                    b: 1,
+                },
+                Class::Div,
+                true,
+            ),
+            (Tuple::Print { value: 0 }, Class::Print, false),
+        ] {
+            assert_eq!(rt; class(tuple), want, "class of {tuple:?}");
+            assert_eq!(rt; gives_value(tuple), value, "value of {tuple:?}");
+        }
+    }
+}
