@@ -1,0 +1,31 @@
+//! The program: the top call over the files and streams of the system.
+#![tactic(auto)]
+
+use bm_io::{RealFiles, RealSink};
+use bmimd_top::bmimd;
+use std::env::Env;
+use std::process::ExitCode;
+use std::{env, io};
+
+/// The words after the program's name.
+fn words(rt: &(impl Env + AllocGlobal)) -> io::Result<Vec<String>> {
+    let mut words = Vec::new(rt.alloc());
+    for word in env::args(rt)?.skip(1) {
+        words.push(word)?;
+    }
+    Ok(words)
+}
+
+/// Runs the top call. Words that are no text count as no words, so they are a usage fault.
+fn main(rt: HostRuntime) -> ExitCode {
+    let alloc = rt.alloc();
+    let words = match words(&rt) {
+        Ok(words) => words,
+        Err(_) => Vec::new(alloc),
+    };
+    let mut files = RealFiles::new(&rt);
+    let mut out = RealSink::new(rt.stdout());
+    let mut err = RealSink::new(rt.stderr());
+    let status = bmimd(alloc, &words, &mut files, &mut out, &mut err);
+    ExitCode::from(status.code)
+}

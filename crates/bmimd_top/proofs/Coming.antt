@@ -1,0 +1,84 @@
+-- Readings one after another.
+use Rattle.std.proofs.Common.{ℕ, List, [], ◌∷◌, ◌++◌, Option, Ok, Err, refl, subst, inl, inr, append-nil}
+use Rattle.bm_io.specs.Files.{Held}
+use Rattle.bmimd_top.specs.Course.{Asks, Refuses, Gives, Course, asks, refuses, gives, ◌>>=◌, IsReading}
+use Rattle.bmimd_top.specs.Refusals.{refused_as}
+use Rattle.bmimd_top.specs.Ends.{FilesSeen, StopsReading, Comes}
+use Rattle.bmimd_top.specs.declared.report.Refusal.{Refusal}
+use Rattle.bmimd_top.specs.declared.report.Stop.{Stop}
+use Rattle.bmimd_top.specs.declared.report.Stop.TheVariants.{Refused as Refusing, Unread, Unwritten, Memory}
+
+-- what one course may come to another may: then it may be read alike
+IsReading-as : {A B : Type 0} (told : Option Held) (m : Course A) (n : Course B) → ((cs : List (List ℕ)) (name : List ℕ) (most : ℕ) → m cs (Asks name most) → n cs (Asks name most)) → (contents names : List (List ℕ))
+    → IsReading told m contents names → IsReading told n contents names
+IsReading-as told m n same [] [] h = tt
+IsReading-as told m n same (c ∷ cs) (a ∷ as') h = (h.0, same [] a h.0 h.1, h.2, h.3, IsReading-as told (λ rest. m (c ∷ rest)) (λ rest. n (c ∷ rest)) (λ rest. same (c ∷ rest)) cs as' h.4)
+IsReading-as told m n same [] (a ∷ as') h = absurd h
+IsReading-as told m n same (c ∷ cs) [] h = absurd h
+
+-- what the first part asks for, the whole asks for
+pub IsReading-first : {A B : Type 0} (told : Option Held) (m : Course A) (f : A → Course B) (contents names : List (List ℕ)) → IsReading told m contents names → IsReading told (m >>= f) contents names
+IsReading-first told m f contents names h = IsReading-as told m (m >>= f) (λ cs name most k. asks name most k refl) contents names h
+
+-- behind a value, what the rest asks for
+pub IsReading-then : {A B : Type 0} (told : Option Held) (m : Course A) (f : A → Course B) (x : A) (cs as' ds bs : List (List ℕ)) → IsReading told m cs as' → ((rest : List (List ℕ)) → m (cs ++ rest) (Gives x rest))
+    → IsReading told (f x) ds bs → IsReading told (m >>= f) (cs ++ ds) (as' ++ bs)
+IsReading-then told m f x [] [] ds bs h g k = IsReading-as told (f x) (m >>= f) (λ rest name most q. gives x rest (g rest) q) ds bs k
+IsReading-then told m f x (c ∷ cs) (a ∷ as') ds bs h g k = (h.0, asks a h.0 h.1 refl, h.2, h.3, IsReading-then told (λ rest. m (c ∷ rest)) f x cs as' ds bs h.4 g k)
+IsReading-then told m f x [] (a ∷ as') ds bs h g k = absurd h
+IsReading-then told m f x (c ∷ cs) [] ds bs h g k = absurd h
+
+-- a stop of the first part is one of the whole
+pub StopsReading-first : {A B : Type 0} (before now : FilesSeen) (m : Course A) (f : A → Course B) (contents names : List (List ℕ)) (e : Stop) → StopsReading before now m contents names e → StopsReading before now (m >>= f) contents names e
+StopsReading-first before now m f contents names (Refusing r) h = (refuses (refused_as r) h.0 refl, h.1)
+StopsReading-first before now m f contents names (Unread name) h = ((h.0.0, asks name.now h.0.0 h.0.1 refl), h.1, h.2)
+StopsReading-first before now m f contents names Unwritten h = absurd h
+StopsReading-first before now m f contents names Memory h = elim h [ inl a ↦ inl a | inr b ↦ inr (b.0, b.1, asks b.0 b.1 b.2 refl, b.3) ]
+
+-- where the course gives a value at the end of what was read
+pub at_end : {A : Type 0} (m : Course A) (cs : List (List ℕ)) (x : A) → ((rest : List (List ℕ)) → m (cs ++ rest) (Gives x rest)) → m cs (Gives x [])
+at_end m cs x g = subst (λ ds. m ds (Gives x [])) (append-nil cs) (g [])
+
+module _ {X Y A B : Type 0} (Stands : X → A → Type 0) (Stands' : Y → B → Type 0) (told : Option Held) where
+  pub Comes-stop : (before now : FilesSeen) (m : Course A) (f : A → Course B) (e : Stop) → Comes Stands told before now m (Err e) → Comes Stands' told before now (m >>= f) (Err e)
+  Comes-stop before now m f e h = record {
+    contents = h.contents;
+    names = h.names;
+    reading = IsReading-first told m f h.contents h.names h.reading;
+    ends = StopsReading-first before now m f h.contents h.names e h.ends;
+    later = h.later;
+  }
+
+  -- where the rest reads nothing more and gives a value
+  pub Comes-give : (before now : FilesSeen) (m : Course A) (f : A → Course B) (x : X) (y : Y) → Comes Stands told before now m (Ok x)
+      → ((a : A) → Stands x a → (b : B) × Stands' y b × ((rest : List (List ℕ)) → f a rest (Gives b rest))) → Comes Stands' told before now (m >>= f) (Ok y)
+  Comes-give before now m f x y h g =
+      let k = g h.ends.0 h.ends.1 in
+      record {
+        contents = h.contents;
+        names = h.names;
+        reading = IsReading-first told m f h.contents h.names h.reading;
+        ends = (k.0, k.1, λ rest. gives h.ends.0 rest (h.ends.2 rest) (k.2 rest), h.ends.3);
+        later = h.later;
+      }
+
+  -- where the rest refuses at once
+  pub Comes-refuse : (before now : FilesSeen) (m : Course A) (f : A → Course B) (x : X) (r : Refusal) → Comes Stands told before now m (Ok x)
+      → ((a : A) → Stands x a → f a [] (Refuses (refused_as r))) → Comes Stands' told before now (m >>= f) (Err (Refusing r))
+  Comes-refuse before now m f x r h g = record {
+    contents = h.contents;
+    names = h.names;
+    reading = IsReading-first told m f h.contents h.names h.reading;
+    ends = (gives h.ends.0 [] (at_end m h.contents h.ends.0 h.ends.2) (g h.ends.0 h.ends.1), h.ends.3);
+    later = h.later;
+  }
+
+  -- where memory runs out behind it
+  pub Comes-starve : (before now : FilesSeen) (m : Course A) (f : A → Course B) (x : X) → Comes Stands told before now m (Ok x) → Comes Stands' told before now (m >>= f) (Err Memory)
+  Comes-starve before now m f x h = record {
+    contents = h.contents;
+    names = h.names;
+    reading = IsReading-first told m f h.contents h.names h.reading;
+    ends = inl h.ends.3;
+    later = h.later;
+  }
