@@ -1,0 +1,13 @@
+pub mod Steps
+pub mod Complete
+pub mod Sound
+pub mod Holds
+pub mod Whole
+pub mod Wants
+pub mod Unique
+pub mod Tallies
+pub mod Whole_runs
+pub mod Fit
+pub mod Lists
+pub mod Few
+pub mod Again

@@ -1,0 +1,123 @@
+//! What an action does to the state.
+
+ghost use Rattle.std.specs.Prelude.{◌≡◌, ◌∷◌, ◌++◌, [], Some, None, IfOk, OnOk, if◌then◌else◌};
+ghost use Rattle.src_parser.specs.Machine as spec;
+
+use crate::machine::{Action, Block, Head, Mode, State};
+use sqlite_items::Items;
+use src_tree::{Decl, Stmt};
+use std::alloc::{AllocError, Global};
+use std::mem;
+
+/// A body is complete: the statements before it with its own, and what stands before the next
+/// token.
+fn closed_body(block: Block, body: Items<Stmt>) -> Result<(Items<Stmt>, Mode), AllocError>
+    ensures { IfOk result (λ r. (r.0, r.1) ≡ spec.closed_body block.before block.head body) }
+{
+    let Block { mut before, head } = block;
+    match head {
+        Head::While { cond } => {
+            before.push(Stmt::While { cond, body })?;
+            Ok((before, Mode::Item))
+        }
+        Head::If { cond } => Ok((before, Mode::AfterIf { cond, yes: body })),
+        Head::Else { cond, yes } => {
+            before.push(Stmt::If {
+                cond,
+                yes,
+                no: body,
+            })?;
+            Ok((before, Mode::Item))
+        }
+    }
+}
+
+fn close(alloc: Global, state: &mut State) -> Result<bool, AllocError>
+    ensures { IfOk result (λ went. spec.close state.old state.old.blocks ≡ (if went then Some state.new else None)) }
+{
+    match state.blocks.pop() {
+        None => Ok(false),
+        Some(block) => {
+            let body = mem::replace(&mut state.body, Items::new(alloc));
+            let (body, mode) = closed_body(block, body)?;
+            state.body = body;
+            state.mode = mode;
+            Ok(true)
+        }
+    }
+}
+
+fn begin(state: &mut State, mode: Mode) -> bool
+    ensures { spec.begin state.old mode state.old.blocks state.old.body ≡ (if result then Some state.new else None) }
+{
+    if state.blocks.is_empty() && state.body.is_empty() {
+        state.mode = mode;
+        true
+    } else {
+        false
+    }
+}
+
+fn go(state: &mut State, mode: Mode)
+    ensures { state.new ≡ record state.old { mode = mode } }
+{
+    state.mode = mode;
+}
+
+fn declare(state: &mut State, decl: Decl) -> Result<(), AllocError>
+    ensures { OnOk result (state.new ≡ record state.old { decls = state.old.decls ++ decl ∷ []; mode = Mode.Item }) }
+{
+    state.decls.push(decl)?;
+    state.mode = Mode::Item;
+    Ok(())
+}
+
+fn add(state: &mut State, stmt: Stmt) -> Result<(), AllocError>
+    ensures { OnOk result (state.new ≡ spec.behind state.old stmt) }
+{
+    state.body.push(stmt)?;
+    state.mode = Mode::Item;
+    Ok(())
+}
+
+fn open_body(alloc: Global, state: &mut State, head: Head) -> Result<(), AllocError>
+    ensures { OnOk result (Some state.new ≡ spec.apply state.old (Action.Open head)) }
+{
+    let before = mem::replace(&mut state.body, Items::new(alloc));
+    state.blocks.push(Block { before, head })?;
+    state.mode = Mode::Item;
+    Ok(())
+}
+
+fn add_and_go(state: &mut State, stmt: Stmt, mode: Mode) -> Result<(), AllocError>
+    ensures { OnOk result (Some state.new ≡ spec.apply state.old (Action.FinishGo stmt mode)) }
+{
+    add(state, stmt)?;
+    go(state, mode);
+    Ok(())
+}
+
+fn add_and_close(alloc: Global, state: &mut State, stmt: Stmt) -> Result<bool, AllocError>
+    ensures { IfOk result (λ went. spec.apply state.old (Action.FinishClose stmt) ≡ (if went then Some state.new else None)) }
+{
+    add(state, stmt)?;
+    close(alloc, state)
+}
+
+/// The action's state, or false where no program goes on.
+pub fn apply(alloc: Global, state: &mut State, action: Action) -> Result<bool, AllocError>
+    ensures { IfOk result (λ went. spec.apply state.old action ≡ (if went then Some state.new else None)) }
+{
+    match action {
+        Action::Refuse => return Ok(false),
+        Action::Go(mode) => go(state, mode),
+        Action::Begin(mode) => return Ok(begin(state, mode)),
+        Action::Declare(decl) => declare(state, decl)?,
+        Action::Finish(stmt) => add(state, stmt)?,
+        Action::Open(head) => open_body(alloc, state, head)?,
+        Action::Close => return close(alloc, state),
+        Action::FinishGo(stmt, mode) => add_and_go(state, stmt, mode)?,
+        Action::FinishClose(stmt) => return add_and_close(alloc, state, stmt),
+    }
+    Ok(true)
+}
