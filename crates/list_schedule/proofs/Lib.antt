@@ -1,0 +1,9 @@
+pub mod HeightFacts
+pub mod One
+pub mod Sums
+pub mod Graham
+pub mod Partial
+pub mod Placing
+pub mod StepFacts
+pub mod Turn
+pub mod Whole

@@ -1,0 +1,45 @@
+// Sums and greatest numbers of lists.
+ghost use Rattle.std.specs.Prelude.{◌≡◌, ℕ, ◌+◌, ◌≤◌, length, map, sum, slice_index};
+ghost use Rattle.std.specs.List.{range_with_len};
+ghost use Rattle.list_schedule.specs.Job.{greatest};
+
+use crate::heights::larger;
+
+/// The sum of the times.
+pub(crate) fn sum_of(times: &[u32]) -> u32
+    requires few { length times.now ≤ 128 }
+    requires short { (u : ℕ) → slice_index times.now u ≤ 1000 }
+    ensures { result ≡ sum times.now }
+{
+    let mut sum = 0;
+    for time in times {
+        sum += *time;
+    }
+    sum
+}
+
+/// The greatest of the numbers, 0 without one.
+pub(crate) fn greatest_of(numbers: &[u32]) -> u32
+    ensures { result ≡ greatest numbers.now }
+{
+    let mut most = 0;
+    for number in numbers {
+        most = larger(most, *number);
+    }
+    most
+}
+
+/// The last finish of tuples with these times and starts, 0 without one.
+pub(crate) fn last_of(times: &[u32], starts: &[u32]) -> u32
+    requires few { length times.now ≤ 128 }
+    requires same { length starts.now ≡ length times.now }
+    requires short { (u : ℕ) → slice_index times.now u ≤ 1000 }
+    requires early { (u : ℕ) → slice_index starts.now u ≤ 128000 }
+    ensures { result ≡ greatest (map (λ u. slice_index starts.now u + slice_index times.now u) (range_with_len 0 (length times.now))) }
+{
+    let mut last = 0;
+    for t in 0..times.len() as u8 {
+        last = larger(last, starts[t as usize] + times[t as usize]);
+    }
+    last
+}
