@@ -1,0 +1,7 @@
+use Rattle.src_meaning.proofs.laws.turns_only_add.Goals as goal
+
+pub returns-clause-output : goal.returns-clause-output
+returns-clause-output c = ?
+
+pub returns-clause-done : goal.returns-clause-done
+returns-clause-done c = ?

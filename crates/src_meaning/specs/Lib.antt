@@ -1,0 +1,3 @@
+pub mod Evaluates
+pub mod Laws
+pub mod Meaning

@@ -1,0 +1,13 @@
+//! What a resolved program means, and its evaluation.
+//!
+//! `specs/Meaning` has the meaning: a recursion over statements and turns, where each test of a loop
+//! that is not 0 spends one turn. [`eval`] computes it word by word.
+#![tactic(auto)]
+
+mod eval;
+mod laws;
+
+
+pub use eval::End;
+pub use laws::turns_only_add;
+
