@@ -49,9 +49,9 @@ kept : (names : List Entry) (memory : List Content) (x : ℕ) (c : Content) → 
 kept names memory x c m k = record {
   long = length-set memory x c ∙ m.long;
   kinds = λ y e d n h. elim (after_write memory x y c d h) [
-    inl p ↦
-      let at : slice_get names x ≡ Some e = subst (λ z. slice_get names z ≡ Some e) p.2 n in
-      subst (λ z. IsOfKind e.kind z) (sym p.3) (k e.kind p.0 p.1 (m.kinds x e p.0 at p.1))
+    | inl p ↦
+        let at : slice_get names x ≡ Some e = subst (λ z. slice_get names z ≡ Some e) p.2 n in
+        subst (λ z. IsOfKind e.kind z) (sym p.3) (k e.kind p.0 p.1 (m.kinds x e p.0 at p.1))
     | inr p ↦ m.kinds y e d n p
   ];
 }

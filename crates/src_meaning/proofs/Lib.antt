@@ -1,3 +1,11 @@
+pub mod Algebra
 pub mod Equations
+pub mod Growing
+pub mod Induct
 pub mod Kept
+pub mod Lawful
+pub mod Runs
 pub mod Suits
+pub mod Taking
+pub mod Turns
+pub mod Valued

@@ -10,8 +10,8 @@ use Rattle.tuple_ir.specs.Memories.{IsMemoryOf}
 use Rattle.src_names.specs.Right.{RightExpr, RightStmt, RightBody}
 use Rattle.src_names.specs.declared.resolved.RExpr.{RExpr}
 use Rattle.src_names.specs.declared.resolved.RStmt.{RStmt}
-use Rattle.src_meaning.specs.declared.eval.End.{End}
-use Rattle.src_meaning.specs.Meaning.{Action}
+use Rattle.src_meaning.specs.declared.evaluate.End.{End}
+use Rattle.src_meaning.specs.Meaning.{Outcome}
 
 -- what is seen before and after an evaluation: what the values hold and their faults, the turns that are left, and the memory
 pub record View (Held : Type 0) : Type 0 where
@@ -20,13 +20,16 @@ pub record View (Held : Type 0) : Type 0 where
   pub turns : ℕ
   pub memory : List Content
 
--- The words that the action prints were taken, up to the first that was refused. Where none was, the answer is how the action came out,
--- with its turns and its memory. Some names keep their memory in every case.
-pub record Evaluates {Held : Type 0} (next : Held → ℤ → Held) (leaves : SinkFault → Held → ℤ → Held → Type 0) (is_sure : Bool) (before now : View Held) (action : Action) (result : Result End SinkFault) : Type 0 where
-  pub took : Took next leaves before.held now.held (action before.turns before.memory).output result
-  pub end : IfOk result (λ end. end ≡ (action before.turns before.memory).end)
-  pub turns : OnOk result (now.turns ≡ (action before.turns before.memory).turns)
-  pub memory : OnOk result (now.memory ≡ (action before.turns before.memory).memory)
+abbrev pub seen : {Held : Type 0} → Held → ℕ → ℕ → List Content → View Held
+seen held faults turns memory = record { held = held; faults = faults; turns = turns; memory = memory }
+
+-- The words of the outcome were taken, up to the first that was refused. Where none was, the answer is how the outcome ends, with its
+-- turns and its memory. A memory of some names stays one in every case.
+pub record Evaluates {Held : Type 0} (next : Held → ℤ → Held) (leaves : SinkFault → Held → ℤ → Held → Type 0) (is_sure : Bool) (before now : View Held) (outcome : Outcome) (result : Result End SinkFault) : Type 0 where
+  pub took : Took next leaves before.held now.held outcome.output result
+  pub end : IfOk result (λ end. end ≡ outcome.end)
+  pub turns : OnOk result (now.turns ≡ outcome.turns)
+  pub memory : OnOk result (now.memory ≡ outcome.memory)
   pub names : (names : List Entry) → IsMemoryOf names before.memory → IsMemoryOf names now.memory
   pub cause : HasCause Failed before.faults now.faults result
   pub sure : IsTrue is_sure → IsOk result

@@ -2,7 +2,7 @@
 use Rattle.std.specs.Prelude.{ℕ, ◌≡◌, ◌+◌, ◌≤◌, ℤ, List, ◌++◌}
 use Rattle.bm_base.specs.Memory.{Content}
 use Rattle.src_names.specs.RProgram.{RProgram}
-use Rattle.src_meaning.specs.declared.eval.End.TheVariants.{Done}
+use Rattle.src_meaning.specs.declared.evaluate.End.TheVariants.{Done}
 use Rattle.src_meaning.specs.Meaning.{Outcome, meaning}
 
 -- the words of the second outcome go on where those of the first end

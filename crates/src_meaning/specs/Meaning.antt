@@ -8,8 +8,8 @@ use Rattle.src_names.specs.declared.resolved.RExpr.{RExpr, RExpr-F}
 use Rattle.src_names.specs.declared.resolved.RExpr.TheFolds.{fold-RExpr}
 use Rattle.src_names.specs.declared.resolved.RStmt.{RStmt, RStmt-F}
 use Rattle.src_names.specs.declared.resolved.RStmt.TheFolds.{fold-RStmt}
-use Rattle.src_meaning.specs.declared.eval.End.{End}
-use Rattle.src_meaning.specs.declared.eval.End.TheVariants.{Done, More}
+use Rattle.src_meaning.specs.declared.evaluate.End.{End}
+use Rattle.src_meaning.specs.declared.evaluate.End.TheVariants.{Done, More}
 
 abbrev pub value_step : RExpr-F (List Content → ℤ) → List Content → ℤ
 value_step (RExpr-F.Number v) memory = v

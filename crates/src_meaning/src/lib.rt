@@ -4,10 +4,8 @@
 //! that is not 0 spends one turn. [`eval`] computes it word by word.
 #![tactic(auto)]
 
-mod eval;
+mod evaluate;
 mod laws;
 
-
-pub use eval::End;
+pub use evaluate::End;
 pub use laws::turns_only_add;
-
