@@ -1,5 +1,6 @@
 -- Statements that were run.
-use Rattle.std.proofs.Common.{◌≡◌, ℕ, zero, suc, ◌<◌, ◌≤◌, ◌+◌, ◌-◌, ℤ, pos, List, [], ◌∷◌, ◌++◌, Bool, true, false, map, drop, length, get_or, Result, Ok, Err, refl, ap, sym, ◌∙◌, subst, arith}
+use Rattle.std.proofs.Common.{◌≡◌, ℕ, zero, suc, ◌<◌, ◌≤◌, ◌+◌, ◌-◌, ℤ, pos, List, [], ◌∷◌, ◌++◌, Bool, true, false, map, drop, length, get_or, Result, Ok, Err, refl, ap, sym, ◌∙◌, subst, arith, w64, of_z, to_z, FitsSigned}
+use Rattle.std.proofs.lemmas.Int.{to_z-of_z}
 use Rattle.std.specs.Prelude.{OnOk, IfErr, IsOk, IsTrue}
 use Rattle.std.specs.Ordering.{int_eq}
 use Rattle.std.specs.Bool.{Decides}
@@ -28,12 +29,29 @@ use Rattle.src_meaning.proofs.Algebra.{Continues, Continues-done, Continues-more
 zero_is : (k : ℤ) → k ≡ pos 0 → is_zero k ≡ true
 zero_is k e = ap is_zero e
 
+-- a word of no bits is 0
+pub zero_word : (k : ℤ) → FitsSigned w64 k → of_z w64 k ≡ 0 → k ≡ pos 0
+zero_word k f e = sym (to_z-of_z w64 k f) ∙ ap (to_z w64) e
+
+pub some_word : (k : ℤ) → (of_z w64 k ≡ 0 → ⊥) → k ≡ pos 0 → ⊥
+some_word k n e = n (ap (of_z w64) e)
+
 decided_no : (b : Bool) (P : Type 0) → Decides b P → (P → ⊥) → b ≡ false
 decided_no true P d n = absurd (n (d.0 refl))
 decided_no false P d n = refl
 
 not_zero_is : (k : ℤ) → (k ≡ pos 0 → ⊥) → is_zero k ≡ false
 not_zero_is k n = decided_no (is_zero k) (k ≡ pos 0) (Decides-int_eq k (pos 0)) n
+
+-- what is left of statements from number i on
+pub drop_first : (zs : List RStmt) (i : ℕ) (z : RStmt) → i < length zs → z ≡ get_or zs i z → drop i zs ≡ z ∷ drop (i + 1) zs
+drop_first zs i z within is = drop_more zs i z within ∙ ap (λ y. y ∷ drop (i + 1) zs) (sym is)
+
+pub drop_past : (zs : List RStmt) (i : ℕ) → length zs ≤ i → drop i zs ≡ []
+drop_past [] zero h = refl
+drop_past [] (suc i) h = refl
+drop_past (z ∷ zs) zero h = absurd (omega arith)
+drop_past (z ∷ zs) (suc i) h = drop_past zs i (omega arith)
 
 module _ {Held : Type 0} (next : Held → ℤ → Held) (leaves : SinkFault → Held → ℤ → Held → Type 0) (is_sure : Bool) where
   -- the memory was written, and nothing else happened
@@ -55,30 +73,45 @@ module _ {Held : Type 0} (next : Held → ℤ → Held) (leaves : SinkFault → 
   printed_here : (n : ℕ) (m : List Content) (z : RStmt) (v : RExpr) (k : ℤ) → z ≡ s.Print v → k ≡ value_of v m → behind (k ∷ []) (done n m) ≡ statement z n m
   printed_here n m z v k is e = ap (λ y. behind (y ∷ []) (done n m)) e ∙ sym (ap (λ y. statement y n m) is ∙ ap (λ a. a n m) (statement-print v))
 
-  pub printed : (h w : Held) (f g n : ℕ) (m : List Content) (z : RStmt) (v : RExpr) (k : ℤ) → z ≡ s.Print v → k ≡ value_of v m → w ≡ next h k → HasCause {T = Unit {0}} Failed f g (Ok tt) → Evaluates next leaves is_sure (seen h f n m) (seen w g n m) (statement z n m) (Ok Done)
-  printed h w f g n m z v k is e t c =
+  pub printed : (h w : Held) (f g n : ℕ) (m : List Content) (z : RStmt) (v : RExpr) (k : ℤ) (u : Unit {0}) → z ≡ s.Print v → k ≡ value_of v m → w ≡ next h k → HasCause Failed f g (Ok u) → Evaluates next leaves is_sure (seen h f n m) (seen w g n m) (statement z n m) (Ok Done)
+  printed h w f g n m z v k u is e t c =
       Evaluates-as next leaves is_sure (seen h f n m) (seen w g n m) (behind (k ∷ []) (done n m)) (statement z n m) (Ok Done) (printed_here n m z v k is e)
-        (record { took = record { ok = t; err = tt }; end = refl; turns = refl; memory = refl; names = λ names i. i; cause = record { later = c.later; rose = λ i. let no : ⊥ = cc in absurd no }; sure = λ _. refl })
+      (record { took = record { ok = t; err = tt }; end = refl; turns = refl; memory = refl; names = λ names i. i; cause = record { later = c.later; rose = λ i. let no : ⊥ = cc in absurd no }; sure = λ _. refl })
 
   pub refused : (h w : Held) (f g n : ℕ) (m : List Content) (z : RStmt) (v : RExpr) (k : ℤ) (e : SinkFault) → z ≡ s.Print v → k ≡ value_of v m → leaves e h k w → HasCause {T = Unit {0}} Failed f g (Err e) → (IsTrue is_sure → IsOk {T = Unit {0}} {E = SinkFault} (Err e))
       → Evaluates next leaves is_sure (seen h f n m) (seen w g n m) (statement z n m) (Err e)
   refused h w f g n m z v k e is same l c u =
       Evaluates-as next leaves is_sure (seen h f n m) (seen w g n m) (behind (k ∷ []) (done n m)) (statement z n m) (Err e) (printed_here n m z v k is same)
-        (record {
-          took = record { ok = tt; err = record { front = []; refused = k; rest = []; values_are = refl; left = l } };
-          end = tt; turns = tt; memory = tt; names = λ names i. i; cause = record { later = c.later; rose = λ i. c.rose (let same_fault : e ≡ Failed = cc in ap Err same_fault) }; sure = u;
-        })
+      (record {
+        took = record { ok = tt; err = record { front = []; refused = k; rest = []; values_are = refl; left = l } };
+        end = tt;
+        turns = tt;
+        memory = tt;
+        names = λ names i. i;
+        cause = record { later = c.later; rose = λ i. c.rose (let same_fault : e ≡ Failed = cc in ap Err same_fault) };
+        sure = u;
+      })
 
-  pub chosen_others : (v w : View Held) (z : RStmt) (c : RExpr) (ones others : List RStmt) (n k : ℕ) (m : List Content) (t : ℤ) (r : Result End SinkFault) → z ≡ s.If c ones others → t ≡ value_of c m → t ≡ pos 0
+  -- what a run of these statements answers, of those that they are
+  pub as_body : (v w : View Held) (zs body : List RStmt) (n : ℕ) (m : List Content) (r q : Result End SinkFault) → zs ≡ body → r ≡ q → Evaluates next leaves is_sure v w (statements zs n m) r → Evaluates next leaves is_sure v w (statements body n m) q
+  as_body v w zs body n m r q is same h = subst (λ x. Evaluates next leaves is_sure v w (statements body n m) x) same (subst (λ l. Evaluates next leaves is_sure v w (statements l n m) r) is h)
+
+  pub turns_fall : (v : View Held) (h : Held) (f n j left : ℕ) (m w : List Content) (body : List RStmt) → n ≡ suc j → Evaluates next leaves is_sure v (seen h f left w) (statements body j m) (Ok Done) → left < n
+  turns_fall v h f n j left m w body some e =
+      let spent = (lawful body).spends j m in
+      let is : left ≡ (statements body j m).turns = e.turns in
+      omega (arith, spent, is, some)
+
+  pub chosen_others : (v w : View Held) (z : RStmt) (c : RExpr) (ones others : List RStmt) (n : ℕ) (m : List Content) (t : ℤ) (r : Result End SinkFault) → z ≡ s.If c ones others → t ≡ value_of c m → t ≡ pos 0
       → Evaluates next leaves is_sure v w (statements others n m) r → Evaluates next leaves is_sure v w (statement z n m) r
-  chosen_others v w z c ones others n k m t r is e o h =
+  chosen_others v w z c ones others n m t r is e o h =
       let holds = zero_is (value_of c m) (sym e ∙ o) in
       let same : statement z n m ≡ statements others n m = ap (λ y. statement y n m) is ∙ ap (λ a. a n m) (statement-if c ones others) ∙ rw holds refl in
       Evaluates-as next leaves is_sure v w (statements others n m) (statement z n m) r (sym same) h
 
-  pub chosen_ones : (v w : View Held) (z : RStmt) (c : RExpr) (ones others : List RStmt) (n k : ℕ) (m : List Content) (t : ℤ) (r : Result End SinkFault) → z ≡ s.If c ones others → t ≡ value_of c m → (t ≡ pos 0 → ⊥)
+  pub chosen_ones : (v w : View Held) (z : RStmt) (c : RExpr) (ones others : List RStmt) (n : ℕ) (m : List Content) (t : ℤ) (r : Result End SinkFault) → z ≡ s.If c ones others → t ≡ value_of c m → (t ≡ pos 0 → ⊥)
       → Evaluates next leaves is_sure v w (statements ones n m) r → Evaluates next leaves is_sure v w (statement z n m) r
-  chosen_ones v w z c ones others n k m t r is e o h =
+  chosen_ones v w z c ones others n m t r is e o h =
       let fails = not_zero_is (value_of c m) (λ q. o (e ∙ q)) in
       let same : statement z n m ≡ statements ones n m = ap (λ y. statement y n m) is ∙ ap (λ a. a n m) (statement-if c ones others) ∙ rw fails refl in
       Evaluates-as next leaves is_sure v w (statements ones n m) (statement z n m) r (sym same) h
@@ -125,8 +158,7 @@ module _ {Held : Type 0} (next : Held → ℤ → Held) (leaves : SinkFault → 
   module _ (v w start : View Held) (whole : Outcome) (zs : List RStmt) (i : ℕ) (z : RStmt) (within : i < length zs) (is : z ≡ get_or zs i z) (rest : Continues next leaves is_sure v (statements (drop i zs) v.turns v.memory) start whole) where
     from_here : Continues next leaves is_sure v (and_then (statement z v.turns v.memory) (statements (drop (i + 1) zs))) start whole
     from_here =
-        let split : drop i zs ≡ z ∷ drop (i + 1) zs = drop_more zs i z within ∙ ap (λ y. y ∷ drop (i + 1) zs) (sym is) in
-        subst (λ l. Continues next leaves is_sure v (statements l v.turns v.memory) start whole) split rest
+        subst (λ l. Continues next leaves is_sure v (statements l v.turns v.memory) start whole) (drop_first zs i z within is) rest
 
     pub first_done : (r : Result End SinkFault) (e : End) → r ≡ Ok e → e ≡ Done → Evaluates next leaves is_sure v w (statement z v.turns v.memory) r → Continues next leaves is_sure w (statements (drop (i + 1) zs) w.turns w.memory) start whole
     first_done r e ok d h =

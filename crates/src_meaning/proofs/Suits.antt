@@ -121,3 +121,6 @@ suits-first zs z rest memory is t = record { names = t.names; right = (body_laye
 -- behind the first statement, in another memory of the same names
 pub suits-rest : (zs : List RStmt) (z : RStmt) (rest : List RStmt) (old now : List Content) → zs ≡ z ∷ rest → ((names : List Entry) → IsMemoryOf names old → IsMemoryOf names now) → SuitsBody zs old → SuitsBody rest now
 suits-rest zs z rest old now is k t = record { names = t.names; right = (body_layer_of t.names zs z rest is t.right).1; holds = k t.names t.holds }
+
+pub suits-body-is : (zs body : List RStmt) (memory : List Content) → zs ≡ body → SuitsBody body memory → SuitsBody zs memory
+suits-body-is zs body memory is t = subst (λ l. SuitsBody l memory) (sym is) t

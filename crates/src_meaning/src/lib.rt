@@ -7,5 +7,5 @@
 mod evaluate;
 mod laws;
 
-pub use evaluate::End;
+pub use evaluate::{End, eval};
 pub use laws::turns_only_add;
