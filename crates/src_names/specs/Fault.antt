@@ -1,5 +1,5 @@
 -- The first fault of a program's declarations and uses.
-use Rattle.std.specs.Prelude.{◌≡◌, ◌≢◌, ◌⊎◌, ℕ, ◌+◌, ◌-◌, ◌^◌, ◌<◌, ◌≤◌, min, ℤ, pos, List, [], ◌∷◌, ◌++◌, Some, slice_get, length, map, All}
+use Rattle.std.specs.Prelude.{◌≡◌, ◌≢◌, ◌⊎◌, ℕ, ◌+◌, ◌-◌, ◌^◌, ◌<◌, ◌≤◌, min, ℤ, pos, List, [], ◌∷◌, ◌++◌, Some, slice_get, length, map}
 use Rattle.bm_base.specs.declared.names.Kind.TheVariants as k
 use Rattle.bm_base.specs.Entry.{Entry}
 use Rattle.bm_base.specs.Names.{element_total}
@@ -72,6 +72,10 @@ module _ (names : List Entry) where
   IsRightUse (Plain n) = AsVar n
   IsRightUse (Indexed n) = AsArray n
 
+  abbrev pub AreRightUses : List Use → Type 0
+  AreRightUses [] = Unit {0}
+  AreRightUses (u ∷ us) = IsRightUse u × AreRightUses us
+
   -- the fault of a use
   abbrev pub UseFault : Use → NameFault → Type 0
   UseFault (Plain n) (f.Unknown at) = (at ≡ n.at) × IsFree n
@@ -86,14 +90,21 @@ module _ (names : List Entry) where
     pub here : Use
     pub back : List Use
     pub split : us ≡ front ++ here ∷ back
-    pub right : All IsRightUse front
+    pub right : AreRightUses front
     pub wrong : UseFault here fault
 
--- The fault of a declaration that stands behind others, which declare these names: its name is declared among them, and where it is not,
+-- one of these declarations has the name, and its place is this
+pub record DeclaredAt (front : List Decl) (n : Ident) (first : ℕ) : Type 0 where
+  pub id : ℕ
+  pub decl : Decl
+  pub here : slice_get front id ≡ Some decl
+  pub same : (name_of decl).text ≡ n.text
+  pub place : first ≡ (name_of decl).at
+
+-- The fault of a declaration that stands behind others, which declare these names: its name is declared among them; where it is not,
 -- its array has no element or no room.
 abbrev pub DeclFault : List Decl → List Entry → Decl → NameFault → Type 0
-DeclFault front names x (f.Twice at first) =
-    (at ≡ (name_of x).at) × (id : ℕ) × (z : Decl) × (slice_get front id ≡ Some z) × ((name_of z).text ≡ (name_of x).text) × (first ≡ (name_of z).at)
+DeclFault front names x (f.Twice at first) = (at ≡ (name_of x).at) × DeclaredAt front (name_of x) first
 DeclFault front names (d.Array n (pos len)) (f.ArraySize at size) =
     (at ≡ n.at) × (size ≡ pos len) × IsFree names n × ((len ≡ 0) ⊎ (1048576 < element_total names + len))
 DeclFault front names _ _ = ⊥
