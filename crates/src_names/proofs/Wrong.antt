@@ -1,5 +1,7 @@
 -- The first fault of a part is that of the whole where what stands before it is right.
-use Rattle.std.proofs.Common.{◌≡◌, ℕ, ℤ, List, [], ◌∷◌, ◌++◌}
+use Rattle.std.proofs.Common.{◌≡◌, ℕ, suc, ◌+◌, ◌<◌, ℤ, List, [], ◌∷◌, ◌++◌, length, drop, ap, sym, ◌∙◌, add-one, append_assoc}
+use Rattle.std.specs.Prelude.{get_or}
+use Rattle.std.proofs.Math.Seq.{drop-cons}
 use Rattle.bm_base.specs.declared.word.Un.{Un}
 use Rattle.bm_base.specs.declared.word.Bin.{Bin}
 use Rattle.bm_base.specs.Entry.{Entry}
@@ -93,6 +95,22 @@ module _ (es : List Entry) where
   pub body_rest : (u : Stmt) (z : RStmt) (us : List Stmt) (f : NameFault) → NamedStmt es u z → Stops es (body_uses us) f → Stops es (body_uses (u ∷ us)) f
   body_rest u z us f h w = stops_right (stmt_uses u) (body_uses us) f (right_stmt es h) w
 
+-- in a body, at the place that has been reached
+module _ (es : List Entry) (body : List Stmt) (i : ℕ) (u : Stmt) (below : i < length body) (at : u ≡ get_or body i u) where
+  rest_is : drop i body ≡ u ∷ drop (i + 1) body
+  rest_is = drop-cons body i u below ∙ (rw add-one (ap (λ x. x ∷ drop (suc i) body) (sym at)))
+
+  pub body_here : (f : NameFault) → ((g : NameFault) → Stops es (body_uses (drop i body)) g → Stops es (body_uses body) g) → Stops es (stmt_uses u) f → Stops es (body_uses body) f
+  body_here f so_far w = so_far f (rw rest_is (body_first es u (drop (i + 1) body) f w))
+
+  pub body_next : (z : RStmt) → NamedStmt es u z → ((g : NameFault) → Stops es (body_uses (drop i body)) g → Stops es (body_uses body) g) →
+      (f : NameFault) → Stops es (body_uses (drop (i + 1) body)) f → Stops es (body_uses body) f
+  body_next z h so_far f w = so_far f (rw rest_is (body_rest es u z (drop (i + 1) body) f h w))
+
+  pub named_next : (z : RStmt) (named : List RStmt) → NamedStmt es u z → ((zs : List RStmt) → NamedBody es (drop i body) zs → NamedBody es body (named ++ zs)) →
+      (zs : List RStmt) → NamedBody es (drop (i + 1) body) zs → NamedBody es body ((named ++ z ∷ []) ++ zs)
+  named_next z named h so_far zs k = rw append_assoc (so_far (z ∷ zs) (rw rest_is (n.more h k)))
+
 -- no memory
 pub starved : (es : List Entry) (us : List Use) (f : NameFault) → f ≡ m.Memory → Stops es us f
 starved es us f e = rw e t.starved
@@ -132,3 +150,5 @@ module _ (es : List Entry) where
 pub ruleset of_expressions = (starved, number, var, element, one, two, var_name, element_name, element_index, one_operand, two_left, two_right)
 
 pub ruleset of_statements = (starved, assign, set, print, choose, repeat, assign_name, assign_value, set_name, set_index, set_value, print_value, if_cond, if_yes, if_no, while_cond, while_body)
+
+pub ruleset of_bodies = (starved, body_here)

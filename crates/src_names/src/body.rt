@@ -104,6 +104,7 @@ fn name_stmt(alloc: Global, names: &Names, stmt: &Stmt) -> Result<RStmt, NameFau
 
 /// The statements, in order.
 #[cycle(name)]
+#[tactic(auto, using(crate::proofs::Wrong::of_bodies))]
 pub(crate) fn name_body(
     alloc: Global,
     names: &Names,
