@@ -1,6 +1,9 @@
 -- One declaration more.
 use Rattle.std.proofs.Common.{◌≡◌, ◌≢◌, ◌⊎◌, ℕ, zero, suc, ◌+◌, ◌-◌, ◌^◌, ◌<◌, ◌≤◌, ℤ, pos, negsuc, Bool, true, false, min, List, [], ◌∷◌, ◌++◌, length, Option, Some, None, Result, Ok, Err, refl, sym, ap, ◌∙◌, subst, arith, inl, inr, take, drop}
 use Rattle.std.specs.Prelude.{◌≤ℤ◌, slice_get, get_or, nat_le, ◌&&◌, if◌then◌else◌}
+use Rattle.std.specs.List.{list_all}
+use Rattle.std.proofs.lemmas.Option.{slice_get_within}
+use Rattle.std.proofs.lemmas.List.Sums.{sum_by_push}
 use Rattle.std.proofs.lemmas.List.{take_more, take-append-drop}
 use Rattle.std.proofs.Math.Seq.{drop-cons}
 use Rattle.std.proofs.Math.Dec.{leb}
@@ -17,8 +20,9 @@ use Rattle.src_tree.specs.declared.tree.Decl.{Decl}
 use Rattle.src_tree.specs.declared.tree.Decl.TheVariants as d
 use Rattle.src_names.specs.declared.fault.NameFault.{NameFault}
 use Rattle.src_names.specs.declared.fault.NameFault.TheVariants as f
-use Rattle.src_names.specs.Declarations.{AreDeclared, IsNamedWell, name_of}
+use Rattle.src_names.specs.Declarations.{AreDeclared, AreInRange, IsNamedWell, AreNamedWell, name_of}
 use Rattle.src_names.specs.Declarations as n
+use Rattle.src_names.specs.Fault as t
 use Rattle.src_names.specs.Fault.{IsFree, DeclaredAt, DeclFault, DeclsFault}
 use Rattle.src_names.specs.Adding.{kind_of, size_of}
 use Rattle.src_names.proofs.Bridge.{is_name_of}
@@ -127,7 +131,7 @@ no_room len es h = elim (no_room_of (min len (2 ^ 32 - 1)) es h) [ inl e ↦ inl
 pub size_fault : (ds : List Decl) (es : List Entry) (x : Decl) → IsNamedWell x → place_of (name_of x).text es ≡ None → has_room (kind_of x) es ≡ false →
     DeclFault ds es x (f.ArraySize (name_of x).at (size_of x))
 size_fault ds es (d.Var m v) w n h = absurd (let u : true ≡ false = h in cc)
-size_fault ds es (d.Array m (pos len)) w n h = (refl, refl, absent m es n, no_room len es h)
+size_fault ds es (d.Array m (pos len)) w n h = t.size (absent m es n) (no_room len es h)
 size_fault ds es (d.Array m (negsuc len)) w n h = absurd (omega arith)
 
 -- the place of the first declaration of a name
@@ -141,18 +145,70 @@ declared_at {ds = ds} {es = es} a m id first z p h at =
 
 -- the fault of the declaration at a place is the first of all
 pub first_fault : (ds : List Decl) (i : ℕ) (z : Decl) (es : List Entry) (fault : NameFault) → i < length ds → z ≡ get_or ds i z →
-    AreDeclared (take i ds) es → AreNames es → DeclFault (take i ds) es z fault → DeclsFault ds fault
-first_fault ds i z es fault below at a lawful w = record {
+    AreDeclared (take i ds) es → AreInRange es → DeclFault (take i ds) es z fault → DeclsFault ds fault
+first_fault ds i z es fault below at a range w = record {
   front = take i ds;
   here = z;
   back = drop (suc i) ds;
   names = es;
   split = sym (take-append-drop i ds) ∙ ap (λ l. take i ds ++ l) (drop-cons ds i z below ∙ ap (λ x. x ∷ drop (suc i) ds) (sym at));
   declared = a;
-  range = record { once = lawful.once; room = lawful.room };
+  range = range;
   wrong = w;
 }
 
 -- one declaration more
 pub one_more : (ds : List Decl) (i : ℕ) (z : Decl) (es : List Entry) → i < length ds → z ≡ get_or ds i z → AreDeclared (take i ds ++ z ∷ []) es → AreDeclared (take (i + 1) ds) es
 one_more ds i z es below at a = rw (take_more ds i z below, ← at) a
+
+-- a name that is declared twice
+pub twice_fault : (ds : List Decl) (es : List Entry) (x : Decl) (at first : ℕ) → at ≡ (name_of x).at → DeclaredAt ds (name_of x) first → DeclFault ds es x (f.Twice at first)
+twice_fault ds es x at first e h = rw e (t.twice h)
+
+-- an entry of a list with one more
+one_of : (es : List Entry) (e x : Entry) (i : ℕ) → slice_get (es ++ e ∷ []) i ≡ Some x → (slice_get es i ≡ Some x) ⊎ ((i ≡ length es) × (e ≡ x))
+one_of [] e x zero h = inr (refl, cc)
+one_of [] e x (suc i) h = absurd (omega (arith, slice_get_within (e ∷ []) (suc i) x h))
+one_of (z ∷ zs) e x zero h = inl h
+one_of (z ∷ zs) e x (suc i) h = elim (one_of zs e x i h) [ inl p ↦ inl p | inr p ↦ inr (ap suc p.0, p.1) ]
+
+module _ (es : List Entry) (m : Ident) (kind : Kind) (range : AreInRange es) (new : place_of m.text es ≡ None) where
+  entry : Entry
+  entry = record { name = m.text; kind = kind }
+
+  once_at : (i j : ℕ) (x z : Entry) → (slice_get es i ≡ Some x) ⊎ ((i ≡ length es) × (entry ≡ x)) → (slice_get es j ≡ Some z) ⊎ ((j ≡ length es) × (entry ≡ z)) → x.name ≡ z.name → i ≡ j
+  unfolding entry
+  once_at i j x z (inl p) (inl q) e = range.once i j x z p q e
+  once_at i j x z (inl p) (inr q) e = absurd ((absent m es new).none i x p (e ∙ sym (ap (λ w. w.name) q.1)))
+  once_at i j x z (inr p) (inl q) e = absurd ((absent m es new).none j z q (sym e ∙ sym (ap (λ w. w.name) p.1)))
+  once_at i j x z (inr p) (inr q) e = p.0 ∙ sym q.0
+
+  pub range_more : has_room kind es ≡ true → AreInRange (es ++ record { name = m.text; kind = kind } ∷ [])
+  unfolding entry
+  range_more h = record {
+    once = λ i j x z p q e. once_at i j x z (one_of es entry x i p) (one_of es entry z j q) e;
+    room = rw (sum_by_push (λ (x : Entry). elements_of x.kind) es entry) (room_more kind h);
+  }
+    where
+      room_more : (kind : Kind) → has_room kind es ≡ true → element_total es + elements_of kind ≤ 1048576
+      room_more (k.Var v) h = let r = range.room in omega arith
+      room_more (k.Array len) h = let r = room_of len es h in omega arith
+
+-- declared names are names
+each_named : {ds : List Decl} {es : List Entry} → AreDeclared ds es → AreNamedWell ds → list_all (λ (e : Entry). is_name e.name) es ≡ true
+each_named n.none w = refl
+each_named (n.var {n = m} {v = v} {ds = ds} a) w =
+    let first : IsNamedWell (d.Var m v) = w 0 (d.Var m v) (omega arith) in
+    let rest : AreNamedWell ds = λ i x lt. w (suc i) x (omega arith) in
+    rw (named_of (d.Var m v) first, each_named a rest) refl
+each_named (n.array {n = m} {len = len} {ds = ds} p a) w =
+    let first : IsNamedWell (d.Array m (pos len)) = w 0 (d.Array m (pos len)) (omega arith) in
+    let rest : AreNamedWell ds = λ i x lt. w (suc i) x (omega arith) in
+    rw (named_of (d.Array m (pos len)) first, each_named a rest) refl
+
+pub are_names : {ds : List Decl} {es : List Entry} → AreDeclared ds es → AreNamedWell ds → AreInRange es → length ds ≤ 1024 → AreNames es
+are_names a w range few = record { few = (let long = length_declared a in omega arith); room = range.room; each = each_named a w; once = range.once }
+
+-- no names
+pub nothing : AreInRange []
+nothing = record { once = λ i j x z p q e. absurd (omega (arith, slice_get_within [] i x p)); room = omega arith }

@@ -5,3 +5,5 @@ pub mod Uses
 pub mod Wrong
 pub mod Declaring
 pub mod Unique
+pub mod First
+pub mod Whole

@@ -27,16 +27,16 @@ use Rattle.src_names.specs.Named.{IsVar, IsArray, NamedExpr, NamedStmt, NamedBod
 use Rattle.src_names.specs.Named as n
 
 -- the declared names
-abbrev Declared : List Decl → List Entry → Type 0
+abbrev pub Declared : List Decl → List Entry → Type 0
 Declared [] fs = fs ≡ []
 Declared (d.Var m v ∷ ds) fs = (gs : List Entry) × AreDeclared ds gs × (fs ≡ record { name = m.text; kind = k.Var v } ∷ gs)
-Declared (d.Array m (pos len) ∷ ds) fs = (gs : List Entry) × AreDeclared ds gs × (fs ≡ record { name = m.text; kind = k.Array len } ∷ gs)
+Declared (d.Array m (pos len) ∷ ds) fs = (gs : List Entry) × AreDeclared ds gs × (fs ≡ record { name = m.text; kind = k.Array len } ∷ gs) × (0 < len)
 Declared (d.Array m v ∷ ds) fs = ⊥
 
-declared : {ds : List Decl} {fs : List Entry} → AreDeclared ds fs → Declared ds fs
+pub declared : {ds : List Decl} {fs : List Entry} → AreDeclared ds fs → Declared ds fs
 declared a.none = refl
 declared (a.var {es = es} h) = (es, h, refl)
-declared (a.array {es = es} p h) = (es, h, refl)
+declared (a.array {es = es} p h) = (es, h, refl, p)
 
 pub one_declared : {ds : List Decl} {es fs : List Entry} → AreDeclared ds es → AreDeclared ds fs → es ≡ fs
 one_declared a.none h = sym (declared h)

@@ -1,7 +1,7 @@
 //! The names of a tree's declarations.
 
 ghost use Rattle.std.specs.Prelude.{◌≡◌, ◌≢◌, ◌<◌, ◌≤◌, ◌≤ℤ◌, pos, ◌++◌, ◌∷◌, [], length, IfErr, OnOk};
-ghost use Rattle.src_names.specs.Declarations.{AreNamedWell, IsNamedWell, AreDeclared, name_of};
+ghost use Rattle.src_names.specs.Declarations.{AreNamedWell, IsNamedWell, AreDeclared, AreInRange, name_of};
 ghost use Rattle.src_names.specs.Fault.{DeclFault, DeclsFault};
 ghost use Rattle.src_names.specs.Adding.{cut_of, kind_of, size_of};
 
@@ -57,7 +57,9 @@ fn declare(names: &mut Names, earlier: &[Decl], decl: &Decl) -> Result<(), NameF
     requires few { length names.old < 1024 }
     requires well { IsNamedWell decl.now }
     requires declared { AreDeclared earlier.now names.old }
+    requires range { AreInRange names.old }
     ensures ok { OnOk result (AreDeclared (earlier.now ++ decl.now ∷ []) names.new) }
+    ensures range { OnOk result (AreInRange names.new) }
     ensures err { IfErr result (λ e. (e ≢ NameFault.Memory) → DeclFault earlier.now names.old decl.now e) }
 {
     let Ident { text, at } = name(decl);
@@ -83,6 +85,7 @@ pub(crate) fn declare_all(names: &mut Names, decls: &[Decl]) -> Result<(), NameF
     requires none { names.old ≡ [] }
     requires well { AreNamedWell decls.now }
     ensures ok { OnOk result (AreDeclared decls.now names.new) }
+    ensures range { OnOk result (AreInRange names.new) }
     ensures err { IfErr result (λ e. (e ≢ NameFault.Memory) → DeclsFault decls.now e) }
 {
     for decl in decls {

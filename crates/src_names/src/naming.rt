@@ -1,11 +1,11 @@
 //! From a tree to its resolved program.
 
-ghost use Rattle.std.specs.Prelude.{◌≡◌, ◌≢◌, ◌⊎◌, ◌<◌, ◌≤◌, ◌++◌, ◌∷◌, [], length, IfOk, IfErr, OnOk, MatchResult, All};
+ghost use Rattle.std.specs.Prelude.{◌≡◌, ◌≢◌, ◌⊎◌, ◌≤◌, length, IfOk, IfErr, MatchResult};
 ghost use Rattle.src_names.specs.declared.fault.NameFault.{NameFault};
 ghost use Rattle.src_names.specs.RProgram.{RProgram};
-ghost use Rattle.src_names.specs.Declarations.{AreNamedWell, AreDeclared, AreInRange};
+ghost use Rattle.src_names.specs.Declarations.{AreNamedWell};
 ghost use Rattle.src_names.specs.Named.{IsNamed};
-ghost use Rattle.src_names.specs.Fault.{Faults, DeclsFault};
+ghost use Rattle.src_names.specs.Fault.{Faults};
 
 use crate::body::name_body;
 use crate::declare::declare_all;
@@ -16,6 +16,24 @@ use src_tree::Program;
 use std::alloc::Global;
 
 const MOST_NAMES: usize = 1024;
+
+/// The resolved program of a tree of at most 1024 declarations.
+fn name_program(alloc: Global, program: &Program) -> Result<Resolved, NameFault>
+    requires few { length program.now.decls ≤ 1024 }
+    requires well { AreNamedWell program.now.decls }
+    ensures ok { IfOk result (λ r. IsNamed program.now r) }
+    ensures err { IfErr result (λ e. (e ≢ NameFault.Memory) → Faults program.now e) }
+{
+    let mut names = Names::new(alloc);
+    match declare_all(&mut names, program.decls.as_slice()) {
+        Ok(()) => {}
+        Err(fault) => return Err(fault),
+    }
+    match name_body(alloc, &names, program.body.as_slice()) {
+        Ok(body) => Ok(Resolved::new(names, body)),
+        Err(fault) => Err(fault),
+    }
+}
 
 /// The resolved program of a tree: its declared names, and its statements with a number in the
 /// place of each identifier.
@@ -41,8 +59,5 @@ pub fn resolve(alloc: Global, program: &Program) -> Result<Resolved, NameFault>
         let count = count.min(u32::MAX as usize) as u32;
         return Err(NameFault::TooManyNames { count });
     }
-    let mut names = Names::new(alloc);
-    declare_all(&mut names, program.decls.as_slice())?;
-    let body = name_body(alloc, &names, program.body.as_slice())?;
-    Ok(Resolved::new(names, body))
+    name_program(alloc, program)
 }

@@ -1,7 +1,7 @@
 //! The resolved program. A name is its number, the place of its declaration from 0.
 
 ghost use Rattle.std.specs.Prelude.{◌≡◌, ◌≤◌, length};
-ghost use Rattle.src_names.specs.Right.{IsRight, RightBody};
+ghost use Rattle.src_names.specs.Right.{IsRight};
 
 use bm_base::{Bin, Names, Un};
 use sqlite_items::{Boxed, Items};
@@ -113,12 +113,9 @@ impl Model for Resolved {
 impl Resolved {
     /// A program of these names, which the statements use rightly.
     pub(crate) fn new(names: Names, body: Items<RStmt>) -> Resolved
-        requires { RightBody names body }
-        ensures value { result ≡ record { names = names; body = body } }
-        ensures right { IsRight result }
+        requires { IsRight (record { names = names; body = body }) }
+        ensures { result ≡ record { names = names; body = body } }
     {
-        // `len` tells that a list of names is lawful.
-        let _ = names.len();
         Resolved { names, body }
     }
 

@@ -8,7 +8,7 @@ use Rattle.bm_base.specs.Names.{place_of, adding}
 use Rattle.src_names.specs.Declarations.{name_of}
 use Rattle.src_names.specs.Adding.{kind_of}
 use Rattle.src_names.proofs.Find.{within}
-use Rattle.src_names.proofs.Declaring.{means_of, length_declared, declared_at, added, size_fault}
+use Rattle.src_names.proofs.Declaring.{means_of, length_declared, declared_at, added, size_fault, twice_fault, range_more}
 use Rattle.src_names.proofs.declare.declare.Goals as goal
 
 pub bounds-earlier-first : goal.bounds-earlier-first
@@ -38,6 +38,13 @@ returns-in-Ok-clause-ok c =
     let more = rw (text, c.kind.ensures) at c.in-Ok.ensures.ok in
     added c.requires.declared c.args.decl.now c.requires.well place.1 more.1
 
+pub returns-in-Ok-clause-range : goal.returns-in-Ok-clause-range
+returns-in-Ok-clause-range c =
+    let text = c.as_slice.ensures ∙ ap (λ n. n.text) c.name.ensures in
+    let place = means_of c.args.decl.now c.args.names.now (Ok c.in-Ok.field-0) c.requires.well c.requires.few (rw (c.in-Ok.is, text, c.kind.ensures) at c.add.ensures.answer) in
+    let more = rw (text, c.kind.ensures) at c.in-Ok.ensures.ok in
+    rw more.1 (range_more c.args.names.now (name_of c.args.decl.now) (kind_of c.args.decl.now) c.requires.range place.0 place.1)
+
 pub returns-in-Err-Twice-clause-err : goal.returns-in-Err-Twice-clause-err
 returns-in-Err-Twice-clause-err c = λ _.
     let text = c.as_slice.ensures ∙ ap (λ n. n.text) c.name.ensures in
@@ -46,10 +53,9 @@ returns-in-Err-Twice-clause-err c = λ _.
     let long = length_declared c.requires.declared in
     let below : c.in-Err-Twice.first < length c.args.earlier.now = omega (arith, within (name_of c.args.decl.now).text c.args.names.now c.in-Err-Twice.first place) in
     let here : slice_get c.args.earlier.now c.in-Err-Twice.first ≡ Some c.index-earlier-first.result = slice_get_read c.args.earlier.now (length c.args.earlier.now) c.in-Err-Twice.first c.index-earlier-first.result refl below c.index-earlier-first.is in
-    (
-      ap (λ n. n.at) c.name.ensures,
-      declared_at c.requires.declared (name_of c.args.decl.now) c.in-Err-Twice.first c.name-in-Err-Twice.result.now.at c.index-earlier-first.result place here (ap (λ n. n.at) c.name-in-Err-Twice.ensures)
-    )
+    twice_fault c.args.earlier.now c.args.names.now c.args.decl.now c.name.result.now.at c.name-in-Err-Twice.result.now.at
+      (ap (λ n. n.at) c.name.ensures)
+      (declared_at c.requires.declared (name_of c.args.decl.now) c.in-Err-Twice.first c.name-in-Err-Twice.result.now.at c.index-earlier-first.result place here (ap (λ n. n.at) c.name-in-Err-Twice.ensures))
 
 pub returns-in-Err-Size-clause-err : goal.returns-in-Err-Size-clause-err
 returns-in-Err-Size-clause-err c = λ _.
