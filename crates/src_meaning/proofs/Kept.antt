@@ -1,11 +1,11 @@
 -- Memories of names, read and written.
 use Rattle.std.proofs.Common.{◌≡◌, ℕ, zero, suc, ℤ, pos, negsuc, List, [], ◌∷◌, Some, length, refl, ap, sym, ◌∙◌, subst, arith, ◌⊎◌, inl, inr}
 use Rattle.std.specs.Prelude.{slice_get, slice_set}
-use Rattle.std.proofs.lemmas.List.{length-set}
+use Rattle.std.proofs.lemmas.List.{length-set, length-map, length-replicate}
 use Rattle.bm_base.specs.declared.names.Kind.{Kind}
 use Rattle.bm_base.specs.declared.names.Kind.TheVariants.{Var, Array}
 use Rattle.bm_base.specs.Entry.{Entry}
-use Rattle.bm_base.specs.Memory.{Content, Word, Words, IsVariable, IsArray, with_word, with_element, set_variable, set_element}
+use Rattle.bm_base.specs.Memory.{Content, Word, Words, IsVariable, IsArray, with_word, with_element, set_variable, set_element, initial, declared_content}
 use Rattle.tuple_ir.specs.Memories.{IsOfKind, IsMemoryOf}
 use Rattle.src_names.specs.Right.{IsVariableOf, IsArrayOf}
 
@@ -76,3 +76,19 @@ IsMemoryOf-set_variable names memory x v m =
 pub IsMemoryOf-set_element : (names : List Entry) (memory : List Content) (x : ℕ) (i v : ℤ) → IsMemoryOf names memory → IsMemoryOf names (set_element memory x i v)
 IsMemoryOf-set_element names memory x i v m =
     kept names memory x (with_element (slice_get memory x) i v) m (λ k b e h. subst (λ o. IsOfKind k (with_element o i v)) (sym e) (element_kind k b i v h))
+
+of_declared : (k : Kind) → IsOfKind k (declared_content k)
+of_declared (Var i) = tt
+of_declared (Array n) = length-replicate n (pos 0)
+
+initial_at : (names : List Entry) (x : ℕ) (e : Entry) (c : Content) → slice_get names x ≡ Some e → slice_get (initial names) x ≡ Some c → IsOfKind e.kind c
+initial_at [] x e c h k = let no : ⊥ = cc in absurd no
+initial_at (n ∷ ns) zero e c h k =
+    let same : n ≡ e = cc in
+    let held : declared_content n.kind ≡ c = cc in
+    subst (λ d. IsOfKind e.kind d) (ap (λ y. declared_content y.kind) (sym same) ∙ held) (of_declared e.kind)
+initial_at (n ∷ ns) (suc x) e c h k = initial_at ns x e c h k
+
+-- the declared values are a memory of the names
+pub IsMemoryOf-initial : (names : List Entry) → IsMemoryOf names (initial names)
+IsMemoryOf-initial names = record { long = length-map names (λ e. declared_content e.kind); kinds = initial_at names }

@@ -1,4 +1,8 @@
 // Laws of the meaning.
+ghost use Rattle.std.specs.Prelude.{List};
+ghost use Rattle.bm_base.specs.Entry.{Entry};
+ghost use Rattle.bm_base.specs.Memory.{initial};
+ghost use Rattle.tuple_ir.specs.Memories.{IsMemoryOf};
 ghost use Rattle.src_meaning.specs.Laws.{TurnsAddOutput, DoneStays};
 
 /// With one turn more the output of a program goes on where it ended; an outcome that is done stays
@@ -6,4 +10,9 @@ ghost use Rattle.src_meaning.specs.Laws.{TurnsAddOutput, DoneStays};
 pub fn turns_only_add()
     ensures output { TurnsAddOutput }
     ensures done { DoneStays }
+{}
+
+/// The declared values are a memory of the names: what `Store::new` gives may be evaluated on.
+pub fn declared_values_are_a_memory()
+    ensures { (names : List Entry) → IsMemoryOf names (initial names) }
 {}

@@ -6,6 +6,8 @@
 
 mod evaluate;
 mod laws;
+#[cfg(test)]
+mod tests;
 
 pub use evaluate::{End, eval};
-pub use laws::turns_only_add;
+pub use laws::{declared_values_are_a_memory, turns_only_add};

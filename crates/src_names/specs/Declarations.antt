@@ -1,6 +1,5 @@
 -- Declarations and the names that they declare.
 use Rattle.std.specs.Prelude.{◌≡◌, ℕ, ◌<◌, ◌≤◌, ◌≤ℤ◌, ℤ, pos, List, [], ◌∷◌, Some, slice_get, All}
-use Rattle.bm_base.specs.declared.names.Kind.{Kind}
 use Rattle.bm_base.specs.declared.names.Kind.TheVariants as k
 use Rattle.bm_base.specs.Entry.{Entry}
 use Rattle.bm_base.specs.Names.{element_total}
@@ -9,23 +8,17 @@ use Rattle.src_tree.specs.declared.tree.Decl.{Decl}
 use Rattle.src_tree.specs.declared.tree.Decl.TheVariants as d
 use Rattle.src_tree.specs.Plain.{IsName}
 
--- the declarations declare these names, in order
+-- the declarations declare these names, in order; an array has an element
 pub data AreDeclared : List Decl → List Entry → Type 0 where
   none : AreDeclared [] []
   var : {n : Ident} {v : ℤ} {ds : List Decl} {es : List Entry} → AreDeclared ds es →
       AreDeclared (d.Var n v ∷ ds) (record { name = n.text; kind = k.Var v } ∷ es)
-  array : {n : Ident} {len : ℕ} {ds : List Decl} {es : List Entry} → AreDeclared ds es →
+  array : {n : Ident} {len : ℕ} {ds : List Decl} {es : List Entry} → 0 < len → AreDeclared ds es →
       AreDeclared (d.Array n (pos len) ∷ ds) (record { name = n.text; kind = k.Array len } ∷ es)
 
--- an array has an element
-abbrev pub HasElement : Kind → Type 0
-HasElement (k.Var v) = Unit {0}
-HasElement (k.Array len) = 0 < len
-
--- no name twice, and sizes of arrays in range
+-- no name twice, and all arrays together have at most 1,048,576 elements
 pub record AreInRange (es : List Entry) : Type 0 where
   pub once : (i j : ℕ) (x z : Entry) → slice_get es i ≡ Some x → slice_get es j ≡ Some z → x.name ≡ z.name → i ≡ j
-  pub sizes : All (λ (x : Entry). HasElement x.kind) es
   pub room : element_total es ≤ 1048576
 
 -- the declared name

@@ -1,5 +1,5 @@
 -- The first fault of a program's declarations and uses.
-use Rattle.std.specs.Prelude.{◌≡◌, ◌≢◌, ◌⊎◌, ℕ, ◌+◌, ◌-◌, ◌^◌, ◌<◌, ◌≤◌, min, ℤ, pos, List, [], ◌∷◌, ◌++◌, Some, slice_get, length, map, All}
+use Rattle.std.specs.Prelude.{◌≡◌, ◌≢◌, ◌⊎◌, ℕ, ◌+◌, ◌-◌, ◌^◌, ◌<◌, ◌≤◌, min, ℤ, pos, List, [], ◌∷◌, ◌++◌, Some, slice_get, length, map}
 use Rattle.bm_base.specs.declared.names.Kind.TheVariants as k
 use Rattle.bm_base.specs.Entry.{Entry}
 use Rattle.bm_base.specs.Names.{element_total}
@@ -72,13 +72,16 @@ module _ (names : List Entry) where
   IsRightUse (Plain n) = AsVar n
   IsRightUse (Indexed n) = AsArray n
 
-  -- the fault of a use
-  abbrev pub UseFault : Use → NameFault → Type 0
-  UseFault (Plain n) (f.Unknown at) = (at ≡ n.at) × IsFree n
-  UseFault (Indexed n) (f.Unknown at) = (at ≡ n.at) × IsFree n
-  UseFault (Indexed n) (f.NotArray at) = (at ≡ n.at) × AsVar n
-  UseFault (Plain n) (f.NotScalar at) = (at ≡ n.at) × AsArray n
-  UseFault _ _ = ⊥
+  abbrev pub AreRightUses : List Use → Type 0
+  AreRightUses [] = Unit {0}
+  AreRightUses (u ∷ us) = IsRightUse u × AreRightUses us
+
+  -- the fault of a use: its name is not declared, or not as what it is used as
+  pub data UseFault : Use → NameFault → Type 0 where
+    unknown : {n : Ident} → IsFree n → UseFault (Plain n) (f.Unknown n.at)
+    not_variable : {n : Ident} → AsArray n → UseFault (Plain n) (f.NotScalar n.at)
+    unknown_array : {n : Ident} → IsFree n → UseFault (Indexed n) (f.Unknown n.at)
+    not_array : {n : Ident} → AsVar n → UseFault (Indexed n) (f.NotArray n.at)
 
   -- the first fault of these uses: those before it are right
   pub record UsesFault (us : List Use) (fault : NameFault) : Type 0 where
@@ -86,17 +89,23 @@ module _ (names : List Entry) where
     pub here : Use
     pub back : List Use
     pub split : us ≡ front ++ here ∷ back
-    pub right : All IsRightUse front
+    pub right : AreRightUses front
     pub wrong : UseFault here fault
 
--- The fault of a declaration that stands behind others, which declare these names: its name is declared among them, and where it is not,
+-- one of these declarations has the name, and its place is this
+pub record DeclaredAt (front : List Decl) (n : Ident) (first : ℕ) : Type 0 where
+  pub id : ℕ
+  pub decl : Decl
+  pub here : slice_get front id ≡ Some decl
+  pub same : (name_of decl).text ≡ n.text
+  pub place : first ≡ (name_of decl).at
+
+-- The fault of a declaration that stands behind others, which declare these names: its name is declared among them; where it is not,
 -- its array has no element or no room.
-abbrev pub DeclFault : List Decl → List Entry → Decl → NameFault → Type 0
-DeclFault front names x (f.Twice at first) =
-    (at ≡ (name_of x).at) × (id : ℕ) × (z : Decl) × (slice_get front id ≡ Some z) × ((name_of z).text ≡ (name_of x).text) × (first ≡ (name_of z).at)
-DeclFault front names (d.Array n (pos len)) (f.ArraySize at size) =
-    (at ≡ n.at) × (size ≡ pos len) × IsFree names n × ((len ≡ 0) ⊎ (1048576 < element_total names + len))
-DeclFault front names _ _ = ⊥
+pub data DeclFault (front : List Decl) (names : List Entry) : Decl → NameFault → Type 0 where
+  twice : {x : Decl} {first : ℕ} → DeclaredAt front (name_of x) first → DeclFault front names x (f.Twice (name_of x).at first)
+  size : {n : Ident} {len : ℕ} → IsFree names n → (len ≡ 0) ⊎ (1048576 < element_total names + len) →
+      DeclFault front names (d.Array n (pos len)) (f.ArraySize n.at (pos len))
 
 -- the first fault of these declarations: those before it have none
 pub record DeclsFault (ds : List Decl) (fault : NameFault) : Type 0 where

@@ -3,5 +3,7 @@ pub mod Declarations
 pub mod Named
 pub mod Right
 pub mod Fault
+pub mod Adding
+pub mod Stops
 pub mod Sizes
 pub mod Laws

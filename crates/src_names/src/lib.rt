@@ -5,10 +5,17 @@
 //! and uses.
 #![tactic(auto)]
 
+mod body;
+mod declare;
 mod fault;
+mod laws;
 mod naming;
 mod resolved;
 
 pub use fault::NameFault;
+pub use laws::{trees_have_one_fault, trees_have_one_program};
 pub use naming::resolve;
 pub use resolved::{RExpr, RStmt, Resolved};
+
+#[cfg(test)]
+mod tests;

@@ -55,8 +55,8 @@ run-value_in-requires-in-loop-cond g t c = c.loop-cond.invariant.suits.suits_tes
 pub run-returns-then-turns-eq0-clause-evaluates : goal.run-returns-then-turns-eq0-clause-evaluates
 run-returns-then-turns-eq0-clause-evaluates g t c =
     loop_stopped g.V.Values.with_value g.V.Values.leaves g.V.Values.is_sure (g.V.Values.held c.loop-cond.out) (g.V.Values.faults c.loop-cond.out) c.loop-cond.turns c.loop-cond.store
-      (seen (g.V.Values.held c.args.out.now) (g.V.Values.faults c.args.out.now) c.args.turns.now c.args.store.now) (statement c.args.stmt.now c.args.turns.now c.args.store.now)
-      c.in-While.cond c.in-While.body c.value_in-in-loop-cond.result c.value_in-in-loop-cond.ensures c.loop-cond.invariant.rest (some_word c.value_in-in-loop-cond.result c.loop-cond-test.true) c.if-turns-eq0.true
+    (seen (g.V.Values.held c.args.out.now) (g.V.Values.faults c.args.out.now) c.args.turns.now c.args.store.now) (statement c.args.stmt.now c.args.turns.now c.args.store.now)
+    c.in-While.cond c.in-While.body c.value_in-in-loop-cond.result c.value_in-in-loop-cond.ensures c.loop-cond.invariant.rest (some_word c.value_in-in-loop-cond.result c.loop-cond-test.true) c.if-turns-eq0.true
 
 pub run-run_all-requires-in-loop-cond : goal.run-run_all-requires-in-loop-cond
 run-run_all-requires-in-loop-cond g t c =
@@ -69,8 +69,8 @@ run-loop-cond-smaller g t c =
     let new = c.run_all-in-loop-cond.new in
     let some : c.loop-cond.turns ≡ suc (c.loop-cond.turns - 1) = omega (arith, c.if-turns-eq0.false) in
     turns_fall g.V.Values.with_value g.V.Values.leaves g.V.Values.is_sure v (g.V.Values.held new.out) (g.V.Values.faults new.out) c.loop-cond.turns (c.loop-cond.turns - 1) new.turns c.loop-cond.store new.store c.in-While.body some
-      (as_body g.V.Values.with_value g.V.Values.leaves g.V.Values.is_sure v (seen (g.V.Values.held new.out) (g.V.Values.faults new.out) new.turns new.store) c.as_slice-in-loop-cond.result.now c.in-While.body (c.loop-cond.turns - 1) c.loop-cond.store c.run_all-in-loop-cond.result (Ok Done)
-        c.as_slice-in-loop-cond.ensures (c.in-Ok-Done.is ∙ ap Ok c.in-Ok-Done.field-0-is) c.run_all-in-loop-cond.ensures.evaluates)
+    (as_body g.V.Values.with_value g.V.Values.leaves g.V.Values.is_sure v (seen (g.V.Values.held new.out) (g.V.Values.faults new.out) new.turns new.store) c.as_slice-in-loop-cond.result.now c.in-While.body (c.loop-cond.turns - 1) c.loop-cond.store c.run_all-in-loop-cond.result (Ok Done)
+    c.as_slice-in-loop-cond.ensures (c.in-Ok-Done.is ∙ ap Ok c.in-Ok-Done.field-0-is) c.run_all-in-loop-cond.ensures.evaluates)
 
 pub run-loop-cond-preserved : goal.run-loop-cond-preserved
 run-loop-cond-preserved g t c =
@@ -81,9 +81,9 @@ run-loop-cond-preserved g t c =
     let some : c.loop-cond.turns ≡ suc (c.loop-cond.turns - 1) = omega (arith, c.if-turns-eq0.false) in
     record {
       rest = loop_again g.V.Values.with_value g.V.Values.leaves g.V.Values.is_sure (g.V.Values.held c.loop-cond.out) (g.V.Values.faults c.loop-cond.out) c.loop-cond.turns c.loop-cond.store
-        (seen (g.V.Values.held c.args.out.now) (g.V.Values.faults c.args.out.now) c.args.turns.now c.args.store.now) (statement c.args.stmt.now c.args.turns.now c.args.store.now)
-        c.in-While.cond c.in-While.body c.value_in-in-loop-cond.result c.value_in-in-loop-cond.ensures c.loop-cond.invariant.rest j w (some_word c.value_in-in-loop-cond.result c.loop-cond-test.true) some
-        (as_body g.V.Values.with_value g.V.Values.leaves g.V.Values.is_sure v w c.as_slice-in-loop-cond.result.now c.in-While.body j c.loop-cond.store c.run_all-in-loop-cond.result (Ok Done) c.as_slice-in-loop-cond.ensures (c.in-Ok-Done.is ∙ ap Ok c.in-Ok-Done.field-0-is) c.run_all-in-loop-cond.ensures.evaluates);
+          (seen (g.V.Values.held c.args.out.now) (g.V.Values.faults c.args.out.now) c.args.turns.now c.args.store.now) (statement c.args.stmt.now c.args.turns.now c.args.store.now)
+          c.in-While.cond c.in-While.body c.value_in-in-loop-cond.result c.value_in-in-loop-cond.ensures c.loop-cond.invariant.rest j w (some_word c.value_in-in-loop-cond.result c.loop-cond-test.true) some
+          (as_body g.V.Values.with_value g.V.Values.leaves g.V.Values.is_sure v w c.as_slice-in-loop-cond.result.now c.in-While.body j c.loop-cond.store c.run_all-in-loop-cond.result (Ok Done) c.as_slice-in-loop-cond.ensures (c.in-Ok-Done.is ∙ ap Ok c.in-Ok-Done.field-0-is) c.run_all-in-loop-cond.ensures.evaluates);
       suits = suits-while-kept c.in-While.cond c.in-While.body c.loop-cond.store new.store c.run_all-in-loop-cond.ensures.evaluates.names c.loop-cond.invariant.suits;
       lender = c.run_all-in-loop-cond.ensures.lender ∙ c.loop-cond.invariant.lender;
     }
@@ -96,9 +96,9 @@ run-returns-in-Ok-More-clause-evaluates g t c =
     let w = seen (g.V.Values.held new.out) (g.V.Values.faults new.out) new.turns new.store in
     let some : c.loop-cond.turns ≡ suc (c.loop-cond.turns - 1) = omega (arith, c.if-turns-eq0.false) in
     loop_more g.V.Values.with_value g.V.Values.leaves g.V.Values.is_sure (g.V.Values.held c.loop-cond.out) (g.V.Values.faults c.loop-cond.out) c.loop-cond.turns c.loop-cond.store
-      (seen (g.V.Values.held c.args.out.now) (g.V.Values.faults c.args.out.now) c.args.turns.now c.args.store.now) (statement c.args.stmt.now c.args.turns.now c.args.store.now)
-      c.in-While.cond c.in-While.body c.value_in-in-loop-cond.result c.value_in-in-loop-cond.ensures c.loop-cond.invariant.rest j w (some_word c.value_in-in-loop-cond.result c.loop-cond-test.true) some
-      (as_body g.V.Values.with_value g.V.Values.leaves g.V.Values.is_sure v w c.as_slice-in-loop-cond.result.now c.in-While.body j c.loop-cond.store c.run_all-in-loop-cond.result (Ok More) c.as_slice-in-loop-cond.ensures (c.in-Ok-More.is ∙ ap Ok c.in-Ok-More.field-0-is) c.run_all-in-loop-cond.ensures.evaluates)
+    (seen (g.V.Values.held c.args.out.now) (g.V.Values.faults c.args.out.now) c.args.turns.now c.args.store.now) (statement c.args.stmt.now c.args.turns.now c.args.store.now)
+    c.in-While.cond c.in-While.body c.value_in-in-loop-cond.result c.value_in-in-loop-cond.ensures c.loop-cond.invariant.rest j w (some_word c.value_in-in-loop-cond.result c.loop-cond-test.true) some
+    (as_body g.V.Values.with_value g.V.Values.leaves g.V.Values.is_sure v w c.as_slice-in-loop-cond.result.now c.in-While.body j c.loop-cond.store c.run_all-in-loop-cond.result (Ok More) c.as_slice-in-loop-cond.ensures (c.in-Ok-More.is ∙ ap Ok c.in-Ok-More.field-0-is) c.run_all-in-loop-cond.ensures.evaluates)
 
 pub run-returns-in-Err-run_all-clause-evaluates : goal.run-returns-in-Err-run_all-clause-evaluates
 run-returns-in-Err-run_all-clause-evaluates g t c =
@@ -108,21 +108,21 @@ run-returns-in-Err-run_all-clause-evaluates g t c =
     let w = seen (g.V.Values.held new.out) (g.V.Values.faults new.out) new.turns new.store in
     let some : c.loop-cond.turns ≡ suc (c.loop-cond.turns - 1) = omega (arith, c.if-turns-eq0.false) in
     loop_fault g.V.Values.with_value g.V.Values.leaves g.V.Values.is_sure (g.V.Values.held c.loop-cond.out) (g.V.Values.faults c.loop-cond.out) c.loop-cond.turns c.loop-cond.store
-      (seen (g.V.Values.held c.args.out.now) (g.V.Values.faults c.args.out.now) c.args.turns.now c.args.store.now) (statement c.args.stmt.now c.args.turns.now c.args.store.now)
-      c.in-While.cond c.in-While.body c.value_in-in-loop-cond.result c.value_in-in-loop-cond.ensures c.loop-cond.invariant.rest j w c.in-Err-run_all.fault (some_word c.value_in-in-loop-cond.result c.loop-cond-test.true) some
-      (as_body g.V.Values.with_value g.V.Values.leaves g.V.Values.is_sure v w c.as_slice-in-loop-cond.result.now c.in-While.body j c.loop-cond.store c.run_all-in-loop-cond.result (Err c.in-Err-run_all.fault) c.as_slice-in-loop-cond.ensures c.in-Err-run_all.is c.run_all-in-loop-cond.ensures.evaluates)
+    (seen (g.V.Values.held c.args.out.now) (g.V.Values.faults c.args.out.now) c.args.turns.now c.args.store.now) (statement c.args.stmt.now c.args.turns.now c.args.store.now)
+    c.in-While.cond c.in-While.body c.value_in-in-loop-cond.result c.value_in-in-loop-cond.ensures c.loop-cond.invariant.rest j w c.in-Err-run_all.fault (some_word c.value_in-in-loop-cond.result c.loop-cond-test.true) some
+    (as_body g.V.Values.with_value g.V.Values.leaves g.V.Values.is_sure v w c.as_slice-in-loop-cond.result.now c.in-While.body j c.loop-cond.store c.run_all-in-loop-cond.result (Err c.in-Err-run_all.fault) c.as_slice-in-loop-cond.ensures c.in-Err-run_all.is c.run_all-in-loop-cond.ensures.evaluates)
 
 pub run-returns-in-Ok-clause-evaluates : goal.run-returns-in-Ok-clause-evaluates
 run-returns-in-Ok-clause-evaluates g t c =
     let fits : FitsSigned w64 c.value_in.result = search rules in
     printed g.V.Values.with_value g.V.Values.leaves g.V.Values.is_sure (g.V.Values.held c.args.out.now) (g.V.Values.held c.value.new.self) (g.V.Values.faults c.args.out.now) (g.V.Values.faults c.value.new.self) c.args.turns.now c.args.store.now
-      c.args.stmt.now c.in-Print.x (to_z w64 (of_z w64 c.value_in.result)) c.in-Ok.field-0 c.in-Print.is (to_z-of_z w64 c.value_in.result fits ∙ c.value_in.ensures) c.in-Ok.ensures.taken c.in-Ok.ensures.cause
+    c.args.stmt.now c.in-Print.x (to_z w64 (of_z w64 c.value_in.result)) c.in-Ok.field-0 c.in-Print.is (to_z-of_z w64 c.value_in.result fits ∙ c.value_in.ensures) c.in-Ok.ensures.taken c.in-Ok.ensures.cause
 
 pub run-returns-in-Err-clause-evaluates : goal.run-returns-in-Err-clause-evaluates
 run-returns-in-Err-clause-evaluates g t c =
     let fits : FitsSigned w64 c.value_in.result = search rules in
     refused g.V.Values.with_value g.V.Values.leaves g.V.Values.is_sure (g.V.Values.held c.args.out.now) (g.V.Values.held c.value.new.self) (g.V.Values.faults c.args.out.now) (g.V.Values.faults c.value.new.self) c.args.turns.now c.args.store.now
-      c.args.stmt.now c.in-Print.x (to_z w64 (of_z w64 c.value_in.result)) c.in-Err.fault c.in-Print.is (to_z-of_z w64 c.value_in.result fits ∙ c.value_in.ensures) c.in-Err.ensures.refused c.in-Err.ensures.cause c.in-Err.ensures.sure
+    c.args.stmt.now c.in-Print.x (to_z w64 (of_z w64 c.value_in.result)) c.in-Err.fault c.in-Print.is (to_z-of_z w64 c.value_in.result fits ∙ c.value_in.ensures) c.in-Err.ensures.refused c.in-Err.ensures.cause c.in-Err.ensures.sure
 
 pub run-returns-then-value_in-eq0-clause-evaluates : goal.run-returns-then-value_in-eq0-clause-evaluates
 run-returns-then-value_in-eq0-clause-evaluates g t c =
@@ -131,8 +131,8 @@ run-returns-then-value_in-eq0-clause-evaluates g t c =
     let new = c.run_all.new in
     let w = seen (g.V.Values.held new.out) (g.V.Values.faults new.out) new.turns new.store in
     chosen_others g.V.Values.with_value g.V.Values.leaves g.V.Values.is_sure v w c.args.stmt.now c.in-If.cond c.in-If.yes c.in-If.no c.args.turns.now c.args.store.now c.value_in-in-If.result c.run_all.result c.in-If.is c.value_in-in-If.ensures
-      (zero_word c.value_in-in-If.result fits c.if-value_in-eq0.true)
-      (as_body g.V.Values.with_value g.V.Values.leaves g.V.Values.is_sure v w c.as_slice.result.now c.in-If.no c.args.turns.now c.args.store.now c.run_all.result c.run_all.result c.as_slice.ensures refl c.run_all.ensures.evaluates)
+    (zero_word c.value_in-in-If.result fits c.if-value_in-eq0.true)
+    (as_body g.V.Values.with_value g.V.Values.leaves g.V.Values.is_sure v w c.as_slice.result.now c.in-If.no c.args.turns.now c.args.store.now c.run_all.result c.run_all.result c.as_slice.ensures refl c.run_all.ensures.evaluates)
 
 pub run-returns-else-value_in-eq0-clause-evaluates : goal.run-returns-else-value_in-eq0-clause-evaluates
 run-returns-else-value_in-eq0-clause-evaluates g t c =
@@ -140,15 +140,15 @@ run-returns-else-value_in-eq0-clause-evaluates g t c =
     let new = c.run_all-else-value_in-eq0.new in
     let w = seen (g.V.Values.held new.out) (g.V.Values.faults new.out) new.turns new.store in
     chosen_ones g.V.Values.with_value g.V.Values.leaves g.V.Values.is_sure v w c.args.stmt.now c.in-If.cond c.in-If.yes c.in-If.no c.args.turns.now c.args.store.now c.value_in-in-If.result c.run_all-else-value_in-eq0.result c.in-If.is c.value_in-in-If.ensures
-      (some_word c.value_in-in-If.result c.if-value_in-eq0.false)
-      (as_body g.V.Values.with_value g.V.Values.leaves g.V.Values.is_sure v w c.as_slice-else-value_in-eq0.result.now c.in-If.yes c.args.turns.now c.args.store.now c.run_all-else-value_in-eq0.result c.run_all-else-value_in-eq0.result c.as_slice-else-value_in-eq0.ensures refl c.run_all-else-value_in-eq0.ensures.evaluates)
+    (some_word c.value_in-in-If.result c.if-value_in-eq0.false)
+    (as_body g.V.Values.with_value g.V.Values.leaves g.V.Values.is_sure v w c.as_slice-else-value_in-eq0.result.now c.in-If.yes c.args.turns.now c.args.store.now c.run_all-else-value_in-eq0.result c.run_all-else-value_in-eq0.result c.as_slice-else-value_in-eq0.ensures refl c.run_all-else-value_in-eq0.ensures.evaluates)
 
 pub run-returns-after-loop-cond-clause-evaluates : goal.run-returns-after-loop-cond-clause-evaluates
 run-returns-after-loop-cond-clause-evaluates g t c =
     let fits : FitsSigned w64 c.value_in-in-loop-cond.result = search rules in
     loop_done g.V.Values.with_value g.V.Values.leaves g.V.Values.is_sure (g.V.Values.held c.loop-cond.out) (g.V.Values.faults c.loop-cond.out) c.loop-cond.turns c.loop-cond.store
-      (seen (g.V.Values.held c.args.out.now) (g.V.Values.faults c.args.out.now) c.args.turns.now c.args.store.now) (statement c.args.stmt.now c.args.turns.now c.args.store.now)
-      c.in-While.cond c.in-While.body c.value_in-in-loop-cond.result c.value_in-in-loop-cond.ensures c.loop-cond.invariant.rest (zero_word c.value_in-in-loop-cond.result fits c.loop-cond-test.false)
+    (seen (g.V.Values.held c.args.out.now) (g.V.Values.faults c.args.out.now) c.args.turns.now c.args.store.now) (statement c.args.stmt.now c.args.turns.now c.args.store.now)
+    c.in-While.cond c.in-While.body c.value_in-in-loop-cond.result c.value_in-in-loop-cond.ensures c.loop-cond.invariant.rest (zero_word c.value_in-in-loop-cond.result fits c.loop-cond-test.false)
 
 pub run_all-returns-in-Ok-More-clause-evaluates : goal.run_all-returns-in-Ok-More-clause-evaluates
 run_all-returns-in-Ok-More-clause-evaluates g t c =

@@ -1,0 +1,9 @@
+pub mod Bridge
+pub mod Find
+pub mod Equations
+pub mod Uses
+pub mod Wrong
+pub mod Declaring
+pub mod Unique
+pub mod First
+pub mod Whole
