@@ -1,0 +1,4 @@
+pub mod KeyFacts
+pub mod Shapes
+pub mod Times
+pub mod Answered

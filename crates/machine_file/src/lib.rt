@@ -1,0 +1,15 @@
+//! From the bytes of a machine file to its machine.
+//!
+//! A machine file is a TOML text with the keys `processors` and `times`, a table with the least and
+//! the greatest time of each class of instructions. `read_machine` gives its machine, or the first
+//! fault.
+#![tactic(auto)]
+
+mod fault;
+mod read;
+
+pub use fault::{KeyName, MachineFault};
+pub use read::read_machine;
+
+#[cfg(test)]
+mod tests;
