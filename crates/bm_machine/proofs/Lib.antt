@@ -8,3 +8,7 @@ pub mod HeldKinds
 pub mod Ticks
 pub mod KindsKept
 pub mod ClassTimes
+pub mod LineCounts
+pub mod Falls
+pub mod Determined
+pub mod ByBlock

@@ -338,7 +338,7 @@ mod tests {
             })?;
             let mut lines = Vec::new(alloc);
             lines.push(spread(alloc, 6)?)?;
-            let core = Core::of(alloc, Spec::standard(), Blocks { names, blocks }, lines)?;
+            let core = Core::of(alloc, Spec::standard(), Blocks { names, blocks }, &lines)?;
             let unit = Sbm::new(alloc, core.most_masks())?;
             let mut machine = Machine::new(alloc, &core, store, unit, timing)?;
             let mut printed = 0;
