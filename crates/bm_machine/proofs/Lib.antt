@@ -1,0 +1,10 @@
+pub mod Walks
+pub mod PlanFacts
+pub mod Arrivals
+pub mod Begins
+pub mod Goes
+pub mod Firsts
+pub mod HeldKinds
+pub mod Ticks
+pub mod KindsKept
+pub mod ClassTimes

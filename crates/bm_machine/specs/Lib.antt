@@ -1,0 +1,5 @@
+pub mod Planned
+pub mod Core
+pub mod Shown
+pub mod Next
+pub mod Work
