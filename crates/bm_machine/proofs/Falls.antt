@@ -133,34 +133,55 @@ few_left m b s core lt work all =
 pub entered_left : (m : Program) (b clock : ℕ) (w : World) → IsCore m → b < length m.blocks → left_in m (entered m b clock w) (In b) ≤ 384
 entered_left m b clock w core lt = few_left m b (entered m b clock w) core lt (λ p until t operands is. let x = ap (λ q. q.work) (entered_at m.machine.processors p) in let y : Idle ≡ Busy until t operands = sym x ∙ is in absurd (cc)) (length-map _ _)
 
--- ---- the falling number
--- a step within a block that leaves less of it, the clock not going back
-still_falls : (m : Program) (b until : ℕ) (s t : State) → s.mode ≡ In b → t.mode ≡ In b → s.clock ≤ t.clock → left_in m t (In b) + 1 ≤ left_in m s (In b) → still until m t < still until m s
-still_falls m b until s t e f le less = let x = ap (left_in m s) e in let y = ap (left_in m t) f in omega arith
+-- ---- by the machine's steps
+-- a step within a block that leaves less of it
+less_left : (m : Program) (b : ℕ) (s t : State) → s.mode ≡ In b → t.mode ≡ In b → left_in m t (In b) + 1 ≤ left_in m s (In b) → left_in m t t.mode < left_in m s s.mode
+less_left m b s t e f less = let x = ap (left_in m s) e in let y = ap (left_in m t) f in omega arith
 
-module _ (m : Program) (b until : ℕ) (s : State) (inside : s.mode ≡ In b) where
+module _ (m : Program) (b : ℕ) (s : State) (inside : s.mode ≡ In b) where
   does : (a : Action) → after m s a ≡ after_in m b s a
   does a = ap (λ mode. after_to m mode s a) inside
 
   -- a Start
-  pub start_still : (p t d : ℕ) → length s.processors ≡ m.machine.processors → IsNext m (code_at m b) s p t → still until m (after m s (Start p d)) < still until m s
-  start_still p t d long n = subst (λ x. still until m x < still until m s) (sym (does (Start p d))) (still_falls m b until s (after_in m b s (Start p d)) inside (started_mode (code_at m b) s p d _ ∙ inside) (let x = started_clock (code_at m b) s p d (Rattle.unit_law.specs.State.next_item (code_at m b) s p) in omega arith) (start_left m b s long p t d n))
+  pub start_less : (p t d : ℕ) → length s.processors ≡ m.machine.processors → IsNext m (code_at m b) s p t → left_in m (after m s (Start p d)) (after m s (Start p d)).mode < left_in m s s.mode
+  start_less p t d long n = subst (λ x. left_in m x x.mode < left_in m s s.mode) (sym (does (Start p d))) (less_left m b s (after_in m b s (Start p d)) inside (started_mode (code_at m b) s p d _ ∙ inside) (start_left m b s long p t d n))
 
   -- a Fire
-  pub fire_still : (j : ℕ) → length s.processors ≡ m.machine.processors → IsFit m (code_at m b) → length s.fired ≡ length (masks (code_at m b).line) → IsReady (masks (code_at m b).line) s.fired (waits (code_at m b) s) j → still until m (after m s (Fire j)) < still until m s
-  fire_still j long fit all r = subst (λ x. still until m x < still until m s) (sym (does (Fire j))) (still_falls m b until s (after_in m b s (Fire j)) inside inside (le_refl _) (fire_left m b s long fit all j r))
+  pub fire_less : (j : ℕ) → length s.processors ≡ m.machine.processors → IsFit m (code_at m b) → length s.fired ≡ length (masks (code_at m b).line) → IsReady (masks (code_at m b).line) s.fired (waits (code_at m b) s) j → left_in m (after m s (Fire j)) (after m s (Fire j)).mode < left_in m s s.mode
+  fire_less j long fit all r = subst (λ x. left_in m x x.mode < left_in m s s.mode) (sym (does (Fire j))) (less_left m b s (after_in m b s (Fire j)) inside inside (fire_left m b s long fit all j r))
 
   -- a Finish
-  pub finish_still : (p : ℕ) → length s.processors ≡ m.machine.processors → is_due s.clock (processor s p).work ≡ true → still until m (after m s (Finish p)) < still until m s
-  finish_still p long due = subst (λ x. still until m x < still until m s) (sym (does (Finish p))) (still_falls m b until s (after_in m b s (Finish p)) inside inside (le_refl _) (finish_left m b s long p due))
+  pub finish_less : (p : ℕ) → length s.processors ≡ m.machine.processors → is_due s.clock (processor s p).work ≡ true → left_in m (after m s (Finish p)) (after m s (Finish p)).mode < left_in m s s.mode
+  finish_less p long due = subst (λ x. left_in m x x.mode < left_in m s s.mode) (sym (does (Finish p))) (less_left m b s (after_in m b s (Finish p)) inside inside (finish_left m b s long p due))
+
+  -- an Advance changes nothing of it
+  pub advance_same : length s.processors ≡ m.machine.processors → left_in m (after m s Advance) (after m s Advance).mode ≡ left_in m s s.mode
+  advance_same long = subst (λ x. left_in m x x.mode ≡ left_in m s s.mode) (sym (does Advance)) (ap (left_in m (after_in m b s Advance)) inside ∙ advance_left m b s long ∙ sym (ap (left_in m s) inside))
+
+  enters : (c : ℕ) → (after m s Branch).mode ≡ Entering c → after m (after m s Branch) Enter ≡ entered m c (s.clock + 1) s.world
+  enters c to = ap (λ mode. after_to m mode (after m s Branch) Enter) to ∙ ap (λ t. entered m c (t.clock + 1) t.world) (does Branch)
+
+  -- a Branch to a block, and its entry
+  pub enter_few : (c : ℕ) → IsCore m → c < length m.blocks → (after m s Branch).mode ≡ Entering c → left_in m (after m (after m s Branch) Enter) (after m (after m s Branch) Enter).mode < 1000
+  enter_few c core lt to = subst (λ x. left_in m x x.mode < 1000) (sym (enters c to)) (let x = entered_left m c (s.clock + 1) s.world core lt in omega arith)
+
+  -- ---- the falling number
+  started_at : (p d : ℕ) → (after m s (Start p d)).clock ≡ s.clock
+  started_at p d = ap (λ x. x.clock) (does (Start p d)) ∙ started_clock (code_at m b) s p d _
+
+  pub start_still : (until p t d : ℕ) → length s.processors ≡ m.machine.processors → IsNext m (code_at m b) s p t → still until m (after m s (Start p d)) < still until m s
+  start_still until p t d long n = let x = start_less p t d long n in let y = started_at p d in omega arith
+
+  pub fire_still : (until j : ℕ) → length s.processors ≡ m.machine.processors → IsFit m (code_at m b) → length s.fired ≡ length (masks (code_at m b).line) → IsReady (masks (code_at m b).line) s.fired (waits (code_at m b) s) j → still until m (after m s (Fire j)) < still until m s
+  fire_still until j long fit all r = let x = fire_less j long fit all r in let y = ap (λ x. x.clock) (does (Fire j)) in omega arith
+
+  pub finish_still : (until p : ℕ) → length s.processors ≡ m.machine.processors → is_due s.clock (processor s p).work ≡ true → still until m (after m s (Finish p)) < still until m s
+  finish_still until p long due = let x = finish_less p long due in let y = ap (λ x. x.clock) (does (Finish p)) in omega arith
 
   -- an Advance does not raise it
-  pub advance_still : (t : ℕ) → length s.processors ≡ m.machine.processors → least_tick s.clock s.processors ≡ Some t → s.clock ≤ t → still until m (after m s Advance) ≤ still until m s
-  advance_still t long least le = subst (λ x. still until m x ≤ still until m s) (sym (does Advance)) (let x = ap (left_in m s) inside in let y = ap (left_in m (after_in m b s Advance)) inside in let z = advance_left m b s long in let w = ap (λ o. or_clock o s.clock) least in omega arith)
+  pub advance_still : (until t : ℕ) → length s.processors ≡ m.machine.processors → least_tick s.clock s.processors ≡ Some t → s.clock ≤ t → still until m (after m s Advance) ≤ still until m s
+  advance_still until t long least le = let x = advance_same long in let y = ap (λ x. x.clock) (does Advance) ∙ ap (λ o. or_clock o s.clock) least in omega arith
 
-  -- a Branch to a block, and its entry one tick later
-  pub enter_still : (c : ℕ) → IsCore m → c < length m.blocks → (after m s Branch).mode ≡ Entering c → s.clock + 1 ≤ until → still until m (after m (after m s Branch) Enter) < still until m s
-  enter_still c core lt to early = subst (λ x. still until m x < still until m s) (sym enters) (let x = entered_left m c (s.clock + 1) s.world core lt in omega arith)
-    where
-      enters : after m (after m s Branch) Enter ≡ entered m c (s.clock + 1) s.world
-      enters = ap (λ mode. after_to m mode (after m s Branch) Enter) to ∙ ap (λ t. entered m c (t.clock + 1) t.world) (does Branch)
+  -- to leave the block and enter another takes a tick, which weighs more than what may be left of the new block
+  pub enter_still : (until c : ℕ) → IsCore m → c < length m.blocks → (after m s Branch).mode ≡ Entering c → s.clock + 1 ≤ until → still until m (after m (after m s Branch) Enter) < still until m s
+  enter_still until c core lt to early = let x = enter_few c core lt to in let y = ap (λ x. x.clock) (enters c to) in omega arith
