@@ -12,3 +12,5 @@ pub mod LineCounts
 pub mod Falls
 pub mod Determined
 pub mod ByBlock
+pub mod Worked
+pub mod WithinBlock

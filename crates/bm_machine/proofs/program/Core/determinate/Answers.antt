@@ -1,4 +1,6 @@
 use Rattle.bm_machine.proofs.Falls.{few_left}
+use Rattle.bm_machine.proofs.Worked.{names_held}
+use Rattle.bm_machine.proofs.WithinBlock.{kept_work}
 use Rattle.bm_machine.proofs.Determined.{core_early, core_leads}
 use Rattle.bm_machine.proofs.program.Core.determinate.Goals as goal
 
