@@ -1,8 +1,16 @@
 // A machine that runs a core, event by event.
-ghost use Rattle.std.specs.Prelude.{◌≡◌, ◌≤◌, IfOk, ℕ, length, replicate};
+ghost use Rattle.std.specs.Prelude.{◌≡◌, ◌+◌, ◌<◌, ◌≤◌, ◌↔◌, ◌++◌, IfOk, IfSome, IfNone, IsSome, Some, None, true, List, ℕ, length, replicate};
 ghost use Rattle.tuple_ir.specs.Memories.{IsMemoryOf};
+ghost use Rattle.tuple_ir.specs.declared.event.Event.TheVariants.{Entered, Ended as Over, Reached};
 ghost use Rattle.line_model.specs.Streams.{masks};
-ghost use Rattle.unit_law.specs.State.{code_at, start};
+ghost use Rattle.unit_law.specs.State.{In, Entering, Ended, code_at, start, processor, is_due};
+ghost use Rattle.unit_law.specs.Units.{first_from};
+ghost use Rattle.unit_law.specs.Steps.{Action, Advance, Branch, Enter, May, NoneDue, NoneStarts, after, least_tick, target};
+ghost use Rattle.unit_law.specs.OnUnit.{answer_at};
+ghost use Rattle.unit_law.specs.Canonical.{can_start, due_finish, block_branch, next_to};
+ghost use Rattle.bm_machine.specs.Shown.{HasCounts};
+ghost use Rattle.bm_machine.specs.Next.{Takes, StandsFor, tells, is_at, printed_by, event_clock, is_last, goes_on, left_in, still};
+ghost use Rattle.bm_machine.specs.Moves.{Starts, Finishes, fires, branches};
 
 use crate::actor::{Actor, Stage, Task};
 use crate::arrive::{pass, tell};
@@ -107,8 +115,51 @@ impl<'a, U: BarrierUnit, T: Timing> Machine<'a, U, T> {
 }
 
 impl<'a, U: BarrierUnit, T: Timing> Machine<'a, U, T> {
+    /// The block in which the run is, None once it has ended.
+    fn block(&self) -> Option<u32>
+        ensures within { IfSome result (λ block. (self.now.state.mode ≡ In block) × (block < length self.now.program.blocks)) }
+        ensures over { IfNone result (self.now.state.mode ≡ Ended) }
+    {
+        match self.stage {
+            Stage::Inside { block } => Some(block),
+            Stage::Over => None,
+        }
+    }
+
+    /// The lowest processor whose Finish is due.
+    fn lowest_due(&self) -> Option<u8>
+        ensures { result ≡ first_from (λ p. is_due self.now.state.clock (processor self.now.state p).work) 0 self.now.program.machine.processors }
+    {
+        lowest_due(&self.actors, self.clock)
+    }
+
+    /// The lowest processor that can start a tuple of this block.
+    fn lowest_start(&self, block: u32) -> Option<u8>
+        requires { block < length self.now.program.blocks }
+        ensures { result ≡ first_from (can_start (code_at self.now.program block) self.now.state) 0 self.now.program.machine.processors }
+    {
+        lowest_start(self.core, block, &self.actors)
+    }
+
+    /// The least tick of the processors that are busy, None where all are idle.
+    fn least_tick(&self) -> Option<u64>
+        ensures { result ≡ least_tick self.now.state.clock self.now.state.processors }
+    {
+        least_busy_tick(&self.actors)
+    }
+
     /// Starts processor p's next tuple.
-    fn start(&mut self, block: u32, p: u8) -> Event {
+    fn start(&mut self, block: u32, p: u8) -> Event
+        requires within { self.old.state.mode ≡ In block }
+        requires none_due { NoneDue self.old.state }
+        requires one { p < self.old.program.machine.processors }
+        requires can { can_start (code_at self.old.program block) self.old.state p ≡ true }
+        ensures program { self.new.program ≡ self.old.program }
+        ensures choice { U.choice self.new.unit ≡ U.choice self.old.unit }
+        ensures timing { self.new.timing ≡ self.old.timing }
+        ensures starts { Starts (T.duration self.old.timing) self.old.program block p self.old.counts self.old.state result self.new.counts self.new.state }
+        ensures left { left_in self.new.program self.new.state self.new.state.mode < left_in self.old.program self.old.state self.old.state.mode }
+    {
         let actor = self.actors[p as usize];
         let StreamItem::Do { tuple: number } = self.core.stream(block, p)[actor.place] else {
             unreachable!()
@@ -137,7 +188,17 @@ impl<'a, U: BarrierUnit, T: Timing> Machine<'a, U, T> {
     }
 
     /// Finishes the tuple that processor p works on.
-    fn finish(&mut self, block: u32, p: u8) -> Event {
+    fn finish(&mut self, block: u32, p: u8) -> Event
+        requires within { self.old.state.mode ≡ In block }
+        requires one { p < self.old.program.machine.processors }
+        requires due { is_due self.old.state.clock (processor self.old.state p).work ≡ true }
+        ensures program { self.new.program ≡ self.old.program }
+        ensures choice { U.choice self.new.unit ≡ U.choice self.old.unit }
+        ensures timing { self.new.timing ≡ self.old.timing }
+        ensures counts { self.new.counts ≡ self.old.counts }
+        ensures finishes { Finishes self.old.program block p self.old.state result self.new.state }
+        ensures left { left_in self.new.program self.new.state self.new.state.mode < left_in self.old.program self.old.state self.old.state.mode }
+    {
         let actor = self.actors[p as usize];
         let Task::Runs {
             tuple: number,
@@ -187,7 +248,15 @@ impl<'a, U: BarrierUnit, T: Timing> Machine<'a, U, T> {
     }
 
     /// Fires the mask that the unit picks.
-    fn fire(&mut self, block: u32) -> Option<Event> {
+    fn fire(&mut self, block: u32) -> Option<Event>
+        requires within { self.old.state.mode ≡ In block }
+        requires none_due { NoneDue self.old.state }
+        ensures program { self.new.program ≡ self.old.program }
+        ensures choice { U.choice self.new.unit ≡ U.choice self.old.unit }
+        ensures timing { self.new.timing ≡ self.old.timing }
+        ensures counts { self.new.counts ≡ self.old.counts }
+        ensures fires { fires (U.choice self.old.unit) self.old.program block self.old.state result self.new.state }
+    {
         let j = self.unit.pick()?;
         let mask = self.core.masks(block)[j];
         self.told = self.told.without(mask);
@@ -206,10 +275,58 @@ impl<'a, U: BarrierUnit, T: Timing> Machine<'a, U, T> {
         })
     }
 
-    /// Enters a block, one tick later.
-    fn enter(&mut self, block: u32) -> Event {
+    /// Moves the clock to the least tick of the busy processors.
+    fn advance(&mut self, block: u32, tick: u64)
+        requires within { self.old.state.mode ≡ In block }
+        requires none_due { NoneDue self.old.state }
+        requires none_starts { NoneStarts self.old.program (code_at self.old.program block) self.old.state }
+        requires none_fires { answer_at (U.choice self.old.unit) self.old.program block self.old.state ≡ None }
+        requires least { least_tick self.old.state.clock self.old.state.processors ≡ Some tick }
+        requires early { tick ≤ 1000000000000 }
+        ensures program { self.new.program ≡ self.old.program }
+        ensures choice { U.choice self.new.unit ≡ U.choice self.old.unit }
+        ensures timing { self.new.timing ≡ self.old.timing }
+        ensures counts { self.new.counts ≡ self.old.counts }
+        ensures may { May self.old.program self.old.state Advance }
+        ensures effect { self.new.state ≡ after self.old.program self.old.state Advance }
+        ensures later { self.old.state.clock ≤ tick }
+        ensures due { IsSome (first_from (λ p. is_due tick (processor self.new.state p).work) 0 self.new.program.machine.processors) }
+    {
+        self.clock = tick;
+    }
+
+    /// Ends the run, where the block's streams have ended.
+    fn halt(&mut self, block: u32) -> Event
+        requires within { self.old.state.mode ≡ In block }
+        requires may { May self.old.program self.old.state Branch }
+        requires halts { target (code_at self.old.program block).next self.old.state.world ≡ Ended }
+        ensures program { self.new.program ≡ self.old.program }
+        ensures choice { U.choice self.new.unit ≡ U.choice self.old.unit }
+        ensures timing { self.new.timing ≡ self.old.timing }
+        ensures counts { self.new.counts ≡ self.old.counts }
+        ensures effect { self.new.state ≡ after self.old.program self.old.state Branch }
+        ensures event { result ≡ Over self.old.state.clock }
+    {
+        self.stage = Stage::Over;
+        Event::Ended { at: self.clock }
+    }
+
+    /// Enters the next block one tick later, where this one's streams have ended.
+    fn enter(&mut self, block: u32, next: u32) -> Event
+        requires within { self.old.state.mode ≡ In block }
+        requires may { May self.old.program self.old.state Branch }
+        requires leads { target (code_at self.old.program block).next self.old.state.world ≡ Entering next }
+        requires early { self.old.state.clock < 1000000000000 }
+        ensures program { self.new.program ≡ self.old.program }
+        ensures choice { U.choice self.new.unit ≡ U.choice self.old.unit }
+        ensures timing { self.new.timing ≡ self.old.timing }
+        ensures counts { self.new.counts ≡ self.old.counts }
+        ensures effect { self.new.state ≡ after self.old.program (after self.old.program self.old.state Branch) Enter }
+        ensures event { result ≡ Entered (self.old.state.clock + 1) next }
+        ensures left { left_in self.new.program self.new.state self.new.state.mode < 1000 }
+    {
         self.clock += 1;
-        self.stage = Stage::Inside { block };
+        self.stage = Stage::Inside { block: next };
         for p in 0..self.actors.len() {
             self.actors[p] = Actor {
                 place: 0,
@@ -217,63 +334,102 @@ impl<'a, U: BarrierUnit, T: Timing> Machine<'a, U, T> {
             };
         }
         self.told = Mask::empty();
-        self.unit.load(self.core.masks(block));
+        self.unit.load(self.core.masks(next));
         tell(
             &mut self.unit,
             &mut self.told,
             self.core,
-            block,
+            next,
             &self.actors,
         );
         Event::Entered {
             at: self.clock,
-            block,
+            block: next,
         }
     }
 
-    /// Leaves a block whose streams have ended.
-    fn branch(&mut self, block: u32, until: u64) -> Event {
-        let target = match self.core.next(block) {
-            Next::Halt => {
-                self.stage = Stage::Over;
-                return Event::Ended { at: self.clock };
-            }
-            Next::Goto { block } => block,
-            Next::If { cell: c, yes, no } => { if cell(&self.cells, c) == 0 { no } else { yes } }
-        };
-        if self.clock >= until {
-            return Event::Reached;
+    /// The block that follows, None at the end.
+    fn target(&self, block: u32) -> Option<u32>
+        requires { block < length self.now.program.blocks }
+        ensures some { IfSome result (λ next. target (code_at self.now.program block).next self.now.state.world ≡ Entering next) }
+        ensures none { IfNone result (target (code_at self.now.program block).next self.now.state.world ≡ Ended) }
+    {
+        match self.core.next(block) {
+            Next::Halt => None,
+            Next::Goto { block: next } => Some(next),
+            Next::If { cell: c, yes, no } => Some(if cell(&self.cells, c) == 0 { no } else { yes }),
         }
-        self.enter(target)
+    }
+
+    /// Leaves a block where nothing else can be done, unless the next is entered past `until`.
+    fn branch(&mut self, block: u32, until: u64) -> Event
+        requires within { self.old.state.mode ≡ In block }
+        requires none_due { due_finish self.old.program self.old.state ≡ None }
+        requires none_fires { answer_at (U.choice self.old.unit) self.old.program block self.old.state ≡ None }
+        requires none_starts { first_from (can_start (code_at self.old.program block) self.old.state) 0 self.old.program.machine.processors ≡ None }
+        requires none_works { least_tick self.old.state.clock self.old.state.processors ≡ None }
+        requires early { until ≤ 1000000000000 }
+        ensures program { self.new.program ≡ self.old.program }
+        ensures choice { U.choice self.new.unit ≡ U.choice self.old.unit }
+        ensures timing { self.new.timing ≡ self.old.timing }
+        ensures counts { self.new.counts ≡ self.old.counts }
+        ensures may { May self.old.program self.old.state Branch }
+        ensures canonical { block_branch self.old.program (code_at self.old.program block) self.old.state ≡ Some Branch }
+        ensures branches { branches self.old.program block until self.old.state result self.new.state }
+    {
+        match self.target(block) {
+            None => self.halt(block),
+            Some(_) if self.clock >= until => Event::Reached,
+            Some(next) => self.enter(block, next),
+        }
     }
 
     /// The next event of the run, unless its clock would pass `until`.
-    pub fn next(&mut self, until: u64) -> Event {
+    ///
+    /// The event is the next action of the canonical run on the unit's choice with this timing: one
+    /// Start, one Fire, a Finish with the Advance before it where one is needed, or a Branch with the
+    /// Enter behind it. `Reached` comes exactly where the clock would pass `until`, and changes
+    /// nothing. `Ended` comes exactly where the next action is the Branch that ends the run, or the
+    /// run has ended, at a clock of at most `until`; it comes again at later calls. It takes no memory.
+    pub fn next(&mut self, until: u64) -> Event
+        requires { until ≤ 1000000000000 }
+        ensures program { self.new.program ≡ self.old.program }
+        ensures choice { U.choice self.new.unit ≡ U.choice self.old.unit }
+        ensures timing { self.new.timing ≡ self.old.timing }
+        ensures steps { (actions : List Action) × StandsFor result actions × Takes (U.choice self.old.unit) (T.duration self.old.timing) self.old.program self.old.counts self.old.state actions self.new.counts self.new.state }
+        ensures tells { (block : ℕ) → self.old.state.mode ≡ In block → tells (code_at self.old.program block) self.old.state result }
+        ensures at { is_at result self.new.state }
+        ensures output { self.new.state.world.output ≡ self.old.state.world.output ++ printed_by result }
+        ensures reached { (past : List Action) → HasCounts self.old.counts past → (result ≡ Reached) ↔ (until < event_clock self.old.program self.old.state (next_to (U.choice self.old.unit) (T.duration self.old.timing) self.old.program self.old.state.mode past self.old.state)) }
+        ensures ended { (past : List Action) → HasCounts self.old.counts past → (result ≡ Over self.old.state.clock) ↔ ((self.old.state.clock ≤ until) × is_last self.old.program self.old.state (next_to (U.choice self.old.unit) (T.duration self.old.timing) self.old.program self.old.state.mode past self.old.state)) }
+        ensures in_time { self.old.state.clock ≤ until → self.new.state.clock ≤ until }
+        ensures falls { goes_on result ≡ true → still until self.new.program self.new.state < still until self.old.program self.old.state }
+    {
         if self.clock > until {
             return Event::Reached;
         }
-        let Stage::Inside { block } = self.stage else {
+        let Some(block) = self.block() else {
             return Event::Ended { at: self.clock };
         };
-        if let Some(p) = lowest_due(&self.actors, self.clock) {
+        if let Some(p) = self.lowest_due() {
             return self.finish(block, p);
         }
         if let Some(event) = self.fire(block) {
             return event;
         }
-        if let Some(p) = lowest_start(self.core, block, &self.actors) {
+        if let Some(p) = self.lowest_start(block) {
             return self.start(block, p);
         }
-        let Some(tick) = least_busy_tick(&self.actors) else {
-            return self.branch(block, until);
-        };
-        if tick > until {
-            return Event::Reached;
-        }
-        self.clock = tick;
-        match lowest_due(&self.actors, tick) {
-            Some(p) => self.finish(block, p),
-            None => unreachable!(),
+        match self.least_tick() {
+            None => self.branch(block, until),
+            Some(tick) if tick > until => Event::Reached,
+            Some(tick) => {
+                self.advance(block, tick);
+                match self.lowest_due() {
+                    Some(p) => self.finish(block, p),
+                    None => unreachable!(),
+                }
+            }
         }
     }
 }
