@@ -14,3 +14,5 @@ pub mod Determined
 pub mod ByBlock
 pub mod Worked
 pub mod WithinBlock
+pub mod Counting
+pub mod Finished

@@ -1,6 +1,7 @@
 -- What a machine keeps, within a block.
 use Rattle.std.proofs.Common.{◌≡◌, ℕ, zero, suc, ◌+◌, ◌<◌, ◌≤◌, Bool, true, false, ◌&&◌, List, [], ◌∷◌, length, map, get_or, set, slice_get, Option, Some, None, nat_lt, refl, sym, ap, ◌∙◌, subst, arith, ◌⊎◌, inl, inr, get_or-set_same, get_or-set_other, length-set}
 use Rattle.std.proofs.lemmas.Bool.{cases_eq, both_ways}
+use Rattle.std.proofs.lemmas.List.{get_or-map}
 use Rattle.bm_base.specs.Mask.{has_bit}
 use Rattle.bm_base.proofs.MaskBits.{same_bits}
 use Rattle.line_model.specs.Streams.{stream, masks}
@@ -60,3 +61,7 @@ waits_other code s t p x e q ne = one ∙ two
 
     two : (nat_lt q (length (set s.processors p x)) && (is_free s.clock (get_or (set s.processors p x) q at_start).work && is_wait (slice_get (stream q code.line) (get_or (set s.processors p x) q at_start).place))) ≡ waits code s q
     two = ap (λ n. nat_lt q n && (is_free s.clock (get_or (set s.processors p x) q at_start).work && is_wait (slice_get (stream q code.line) (get_or (set s.processors p x) q at_start).place))) (length-set s.processors p x) ∙ ap (λ y. nat_lt q (length s.processors) && (is_free s.clock y.work && is_wait (slice_get (stream q code.line) y.place))) (get_or-set_other s.processors p q x at_start ne)
+
+-- ---- actors as processors
+pub actor_at : (actors : List Actor) (p : ℕ) (a : Actor) → p < length actors → a ≡ get_or actors p a → get_or (map processor_of actors) p at_start ≡ processor_of a
+actor_at actors p a lt e = get_or-map processor_of actors p a at_start lt ∙ ap processor_of (sym e)
