@@ -16,3 +16,4 @@ pub mod Worked
 pub mod WithinBlock
 pub mod Counting
 pub mod Finished
+pub mod Started
