@@ -8,3 +8,4 @@ pub mod HeldKinds
 pub mod Ticks
 pub mod KindsKept
 pub mod ClassTimes
+pub mod Passing

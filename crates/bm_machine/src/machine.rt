@@ -10,7 +10,7 @@ ghost use Rattle.unit_law.specs.OnUnit.{answer_at};
 ghost use Rattle.unit_law.specs.Canonical.{can_start, due_finish, block_branch, next_to};
 ghost use Rattle.bm_machine.specs.Shown.{HasCounts};
 ghost use Rattle.bm_machine.specs.Next.{Takes, StandsFor, tells, is_at, printed_by, event_clock, is_last, goes_on, left_in, still};
-ghost use Rattle.bm_machine.specs.Moves.{Starts, Finishes, fires, branches};
+ghost use Rattle.bm_machine.specs.Moves.{Stands, Starts, Finishes, fires, branches};
 
 use crate::actor::{Actor, Stage, Task};
 use crate::arrive::{pass, tell};
@@ -23,7 +23,7 @@ use std::alloc::{AllocError, Global};
 use std::marker::Model;
 use timing_script::Timing;
 use tuple_ir::{Event, Next, Tuple, class};
-use unit_law::BarrierUnit;
+use unit_law::{BarrierUnit, waiting_processors_have_masks};
 
 /// A run of a core on a barrier unit with a timing.
 #[derive(Drop)]
@@ -115,6 +115,16 @@ impl<'a, U: BarrierUnit, T: Timing> Machine<'a, U, T> {
 }
 
 impl<'a, U: BarrierUnit, T: Timing> Machine<'a, U, T> {
+    /// What always holds.
+    fn facts(&self)
+        ensures { Stands self.now.program self.now.state }
+    {
+        self.core.laws();
+        self.core.times();
+        let _processors = self.core.spec().processors();
+        waiting_processors_have_masks();
+    }
+
     /// The block in which the run is, None once it has ended.
     fn block(&self) -> Option<u32>
         ensures within { IfSome result (λ block. (self.now.state.mode ≡ In block) × (block < length self.now.program.blocks)) }
@@ -130,6 +140,7 @@ impl<'a, U: BarrierUnit, T: Timing> Machine<'a, U, T> {
     fn lowest_due(&self) -> Option<u8>
         ensures { result ≡ first_from (λ p. is_due self.now.state.clock (processor self.now.state p).work) 0 self.now.program.machine.processors }
     {
+        self.facts();
         lowest_due(&self.actors, self.clock)
     }
 
@@ -138,6 +149,7 @@ impl<'a, U: BarrierUnit, T: Timing> Machine<'a, U, T> {
         requires { block < length self.now.program.blocks }
         ensures { result ≡ first_from (can_start (code_at self.now.program block) self.now.state) 0 self.now.program.machine.processors }
     {
+        self.facts();
         lowest_start(self.core, block, &self.actors)
     }
 
