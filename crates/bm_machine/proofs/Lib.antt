@@ -9,3 +9,4 @@ pub mod Ticks
 pub mod KindsKept
 pub mod ClassTimes
 pub mod Passing
+pub mod Moved

@@ -11,7 +11,7 @@ use Rattle.bm_machine.specs.Core.{IsCore}
 use Rattle.unit_law.specs.Steps.{Action, Finish, Fire, Start, Branch, Advance, Enter, May, after, target}
 use Rattle.unit_law.specs.OnUnit.{answer_at}
 use Rattle.unit_law.specs.Canonical.{Durations, time_for}
-use Rattle.bm_machine.specs.Shown.{HasCounts}
+use Rattle.bm_machine.specs.Shown.{HasCounts, IsReached}
 use Rattle.bm_machine.specs.Next.{counts_after, Gives, printed_by, left_in}
 
 -- what always holds of a program that a machine runs, and of its state
@@ -20,8 +20,8 @@ pub record Stands (m : Program) (s : State) : Type 0 where
   pub times : HasTimes m
   pub processors : length s.processors ≡ m.machine.processors
   pub few : m.machine.processors ≤ 64
-  -- whoever waits is a member of a mask that has not fired
-  pub waits : (b p : ℕ) → s.mode ≡ In b → waits (code_at m b) s p ≡ true → has_unfired (masks (code_at m b).line) s.fired p ≡ true
+  -- in each state that the program can reach whoever waits is a member of a mask that has not fired
+  pub unfired : (t : State) (counts : List ℕ) → IsReached m t counts → (b p : ℕ) → t.mode ≡ In b → waits (code_at m b) t p ≡ true → has_unfired (masks (code_at m b).line) t.fired p ≡ true
 
 -- processor p starts its next tuple, which takes the time that the timing gives
 pub record Starts (durations : Durations) (m : Program) (b p : ℕ) (counts : List ℕ) (s : State) (event : Event) (counts' : List ℕ) (s' : State) : Type 0 where

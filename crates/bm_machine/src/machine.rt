@@ -6,7 +6,7 @@ ghost use Rattle.line_model.specs.Streams.{masks};
 ghost use Rattle.unit_law.specs.State.{In, Entering, Ended, code_at, start, processor, is_due};
 ghost use Rattle.unit_law.specs.Units.{first_from};
 ghost use Rattle.unit_law.specs.Steps.{Action, Advance, Branch, Enter, May, NoneDue, NoneStarts, after, least_tick, target};
-ghost use Rattle.unit_law.specs.OnUnit.{answer_at};
+ghost use Rattle.unit_law.specs.OnUnit.{answer_at, answers_lawfully};
 ghost use Rattle.unit_law.specs.Canonical.{can_start, due_finish, block_branch, next_to};
 ghost use Rattle.bm_machine.specs.Shown.{HasCounts};
 ghost use Rattle.bm_machine.specs.Next.{Takes, StandsFor, tells, is_at, printed_by, event_clock, is_last, goes_on, left_in, still};
@@ -23,7 +23,7 @@ use std::alloc::{AllocError, Global};
 use std::marker::Model;
 use timing_script::Timing;
 use tuple_ir::{Event, Next, Tuple, class};
-use unit_law::{BarrierUnit, waiting_processors_have_masks};
+use unit_law::{BarrierUnit, choices_are_lawful, waiting_processors_have_masks};
 
 /// A run of a core on a barrier unit with a timing.
 #[derive(Drop)]
@@ -117,12 +117,14 @@ impl<'a, U: BarrierUnit, T: Timing> Machine<'a, U, T> {
 impl<'a, U: BarrierUnit, T: Timing> Machine<'a, U, T> {
     /// What always holds.
     fn facts(&self)
-        ensures { Stands self.now.program self.now.state }
+        ensures stands { Stands self.now.program self.now.state }
+        ensures lawful { (b : ℕ) → self.now.state.mode ≡ In b → answers_lawfully (U.choice self.now.unit) self.now.program self.now.state (In b) }
     {
         self.core.laws();
         self.core.times();
         let _processors = self.core.spec().processors();
         waiting_processors_have_masks();
+        choices_are_lawful();
     }
 
     /// The block in which the run is, None once it has ended.
@@ -304,6 +306,7 @@ impl<'a, U: BarrierUnit, T: Timing> Machine<'a, U, T> {
         ensures later { self.old.state.clock ≤ tick }
         ensures due { IsSome (first_from (λ p. is_due tick (processor self.new.state p).work) 0 self.new.program.machine.processors) }
     {
+        self.facts();
         self.clock = tick;
     }
 
@@ -319,6 +322,7 @@ impl<'a, U: BarrierUnit, T: Timing> Machine<'a, U, T> {
         ensures effect { self.new.state ≡ after self.old.program self.old.state Branch }
         ensures event { result ≡ Over self.old.state.clock }
     {
+        self.facts();
         self.stage = Stage::Over;
         Event::Ended { at: self.clock }
     }
