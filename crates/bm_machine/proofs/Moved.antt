@@ -1,13 +1,15 @@
 -- What a machine keeps, over an action that changes neither its processors' places nor its unit.
-use Rattle.std.proofs.Common.{◌≡◌, ℕ, zero, suc, ◌+◌, ◌<◌, ◌≤◌, Bool, true, false, ◌&&◌, nat_lt, List, [], ◌∷◌, length, get_or, slice_get, Option, Some, None, ℤ, refl, sym, ap, ◌∙◌, subst, arith, ◌⊎◌, inl, inr}
-use Rattle.std.proofs.lemmas.Bool.{both_ways}
+use Rattle.std.proofs.Common.{◌≡◌, ℕ, zero, suc, ◌+◌, ◌<◌, ◌≤◌, Bool, true, false, ◌&&◌, nat_lt, List, [], ◌∷◌, length, get_or, slice_get, Option, Some, None, ℤ, IsSome, nat_eq, if◌then◌else◌, refl, sym, ap, ◌∙◌, subst, arith, ◌⊎◌, inl, inr}
+use Rattle.std.proofs.lemmas.Bool.{both_ways, cases_Bool, cases_eq, cases_lt}
+use Rattle.std.proofs.lemmas.Bool.Decides.{eqb_tells}
+use Rattle.std.proofs.lemmas.List.{get_or_past}
 use Rattle.bm_base.specs.Mask.{has_bit}
 use Rattle.bm_base.proofs.MaskBits.{same_bits}
 use Rattle.tuple_ir.specs.declared.tuple.Tuple.{Tuple}
 use Rattle.line_model.specs.Streams.{stream, masks}
-use Rattle.unit_law.specs.State.{Code, Program, Mode, In, Entering, Ended, Work, Idle, Busy, State, Processor, at_start, code_at, processor, is_free, is_wait, waits, waiting_mask, next_item}
-use Rattle.unit_law.specs.Units.{Choice, IsLawful}
-use Rattle.unit_law.specs.Steps.{Action, Advance, Branch, May, after, after_to, least_tick, or_clock, tuple_at, target}
+use Rattle.unit_law.specs.State.{Code, Program, Mode, In, Entering, Ended, Work, Idle, Busy, State, Processor, at_start, code_at, processor, is_free, is_due, is_wait, waits, waiting_mask, next_item}
+use Rattle.unit_law.specs.Units.{Choice, IsLawful, first_from}
+use Rattle.unit_law.specs.Steps.{Action, Advance, Branch, NoneDue, NoneStarts, May, may_to, after, after_to, least_tick, or_clock, tuple_at, target}
 use Rattle.unit_law.specs.OnUnit.{answer_at, answers_lawfully}
 use Rattle.unit_law.proofs.Least.{least_is}
 use Rattle.unit_law.proofs.Waiting.{waiting_has}
@@ -48,6 +50,26 @@ works_later code a b count (Busy until t operands) le least h = let lt : b ≤ u
 pub work_until : (code : Code) (a count until t : ℕ) (operands : List ℤ) (w : Work) → w ≡ Busy until t operands → works_rightly code a count w → a ≤ until
 work_until code a count until t operands w e h = (subst (works_rightly code a count) e h).0
 
+eqb_refl' : (n : ℕ) → nat_eq n n ≡ true
+eqb_refl' n = go (eqb_tells n n)
+  where
+    go : ((nat_eq n n ≡ true) × (n ≡ n)) ⊎ ((nat_eq n n ≡ false) × (n ≡ n → ⊥)) → nat_eq n n ≡ true
+    go (inl h) = h.0
+    go (inr h) = absurd (h.1 refl)
+
+some_first : (f : ℕ → Bool) (k n p : ℕ) → k ≤ p → p < k + n → f p ≡ true → IsSome (first_from f k n)
+some_first f k zero p lo hi e = absurd (omega arith)
+some_first f k (suc n) p lo hi e = go (cases_Bool (f k)) (cases_eq k p) (λ l h. some_first f (suc k) n p l h e)
+  where
+    go : (f k ≡ true) ⊎ (f k ≡ false) → (k ≡ p) ⊎ (k ≡ p → ⊥) → (suc k ≤ p → p < suc k + n → IsSome (first_from f (suc k) n)) → IsSome (first_from f k (suc n))
+    go (inl t) c ih = subst (λ v. IsSome (if v then Some k else first_from f (suc k) n)) (sym t) refl
+    go (inr u) (inl q) ih = absurd (both_ways (f p) (ap f (sym q) ∙ u) e)
+    go (inr u) (inr ne) ih = subst (λ v. IsSome (if v then Some k else first_from f (suc k) n)) (sym u) (ih (omega arith) (omega arith))
+
+-- the clock may move, where nothing else can be done
+pub advance_may : (choice : Choice) (m : Program) (b : ℕ) (s : State) (tick : ℕ) → s.mode ≡ In b → NoneDue s → NoneStarts m (code_at m b) s → answer_at choice m b s ≡ None → answers_lawfully choice m s (In b) → least_tick s.clock s.processors ≡ Some tick → May m s Advance
+advance_may choice m b s tick mode due starts none lawful least = subst (λ o. may_to m o s Advance) (sym mode) (due, starts, subst (IsLawful (masks (code_at m b).line) s.fired (waits (code_at m b) s)) none lawful, (tick, least))
+
 -- the clock moves to the least tick
 module _ (m : Program) (b : ℕ) (s : State) (counts : List ℕ) (told capacity : ℕ) (queue : List ℕ) (waiting tick : ℕ) (k : IsKept m s counts told capacity queue waiting) (mode : s.mode ≡ In b) (least : least_tick s.clock s.processors ≡ Some tick) where
   pub advance_later : s.clock ≤ tick
@@ -73,6 +95,17 @@ module _ (m : Program) (b : ℕ) (s : State) (counts : List ℕ) (told capacity 
         told_is = k.told_is;
         agrees = subst (λ o. unit_agrees m (record s { clock = tick }) o queue waiting) (sym mode) (a.0, a.1 ∙ waiting_at (code_at m b) s tick);
       }
+
+  -- then some processor's Finish is due
+  pub advance_due : length s.processors ≡ m.machine.processors → IsSome (first_from (λ p. is_due tick (processor s p).work) 0 m.machine.processors)
+  advance_due long =
+      let l = least_is s.clock s.processors tick least in
+      let due : is_due tick (processor s l.p).work ≡ true = ap (is_due tick) l.is ∙ eqb_refl' tick in
+      some_first (λ p. is_due tick (processor s p).work) 0 m.machine.processors l.p (omega arith) (within l.p due (cases_lt l.p (length s.processors))) due
+    where
+      within : (p : ℕ) → is_due tick (processor s p).work ≡ true → (p < length s.processors) ⊎ (length s.processors ≤ p) → p < 0 + m.machine.processors
+      within p due (inl lt) = omega arith
+      within p due (inr le) = absurd (both_ways _ (ap (λ q. is_due tick q.work) (get_or_past s.processors p at_start le)) due)
 
 -- the run ends
 pub halt_kept : (m : Program) (b : ℕ) (s : State) (counts : List ℕ) (told capacity : ℕ) (queue : List ℕ) (waiting : ℕ) → IsKept m s counts told capacity queue waiting → s.mode ≡ In b → target (code_at m b).next s.world ≡ Ended → May m s Branch → IsKept m (record s { mode = Ended }) counts told capacity queue waiting
