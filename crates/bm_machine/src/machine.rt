@@ -271,6 +271,7 @@ impl<'a, U: BarrierUnit, T: Timing> Machine<'a, U, T> {
         ensures counts { self.new.counts ≡ self.old.counts }
         ensures fires { fires (U.choice self.old.unit) self.old.program block self.old.state result self.new.state }
     {
+        self.facts();
         let j = self.unit.pick()?;
         let mask = self.core.masks(block)[j];
         self.told = self.told.without(mask);
