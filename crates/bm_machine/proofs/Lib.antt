@@ -10,3 +10,11 @@ pub mod KindsKept
 pub mod ClassTimes
 pub mod Passing
 pub mod Moved
+pub mod LineCounts
+pub mod Falls
+pub mod Determined
+pub mod ByBlock
+pub mod Worked
+pub mod WithinBlock
+pub mod Counting
+pub mod Finished

@@ -15,7 +15,7 @@ ghost use Rattle.bm_machine.specs.Moves.{Stands, Starts, Finishes, fires, branch
 use crate::actor::{Actor, Stage, Task};
 use crate::arrive::{pass, tell};
 use crate::search::{least_busy_tick, lowest_due, lowest_start};
-use crate::work::{cell, put, read, value};
+use crate::work::{cell, finish_event, print, put, read, value};
 use crate::{Core, History};
 use bm_base::{Mask, Store};
 use line_model::StreamItem;
@@ -174,6 +174,7 @@ impl<'a, U: BarrierUnit, T: Timing> Machine<'a, U, T> {
         ensures starts { Starts (T.duration self.old.timing) self.old.program block p self.old.counts self.old.state result self.new.counts self.new.state }
         ensures left { left_in self.new.program self.new.state self.new.state.mode < left_in self.old.program self.old.state self.old.state.mode }
     {
+        self.core.laws();
         let actor = self.actors[p as usize];
         let StreamItem::Do { tuple: number } = self.core.stream(block, p)[actor.place] else {
             unreachable!()
@@ -213,6 +214,7 @@ impl<'a, U: BarrierUnit, T: Timing> Machine<'a, U, T> {
         ensures finishes { Finishes self.old.program block p self.old.state result self.new.state }
         ensures left { left_in self.new.program self.new.state self.new.state.mode < left_in self.old.program self.old.state self.old.state.mode }
     {
+        self.core.laws();
         let actor = self.actors[p as usize];
         let Task::Runs {
             tuple: number,
@@ -233,6 +235,7 @@ impl<'a, U: BarrierUnit, T: Timing> Machine<'a, U, T> {
             &mut self.cells,
             &mut self.store,
         );
+        print(tuple, value, &mut self.output);
         self.actors[p as usize] = Actor {
             place: actor.place,
             task: Task::Rest,
@@ -244,21 +247,7 @@ impl<'a, U: BarrierUnit, T: Timing> Machine<'a, U, T> {
             block,
             &self.actors,
         );
-        if let Tuple::Print { .. } = tuple {
-            self.output = self.output.and(&value);
-            return Event::Printed {
-                at: self.clock,
-                processor: p,
-                tuple: number,
-                value,
-            };
-        }
-        Event::Finished {
-            at: self.clock,
-            processor: p,
-            tuple: number,
-            value,
-        }
+        finish_event(tuple, self.clock, p, number, value)
     }
 
     /// Fires the mask that the unit picks.
@@ -511,7 +500,7 @@ mod tests {
             })?;
             let mut lines = Vec::new(alloc);
             lines.push(spread(alloc, 6)?)?;
-            let core = Core::of(alloc, Spec::standard(), Blocks { names, blocks }, lines)?;
+            let core = Core::of(alloc, Spec::standard(), Blocks { names, blocks }, &lines)?;
             let unit = Sbm::new(alloc, core.most_masks())?;
             let mut machine = Machine::new(alloc, &core, store, unit, timing)?;
             let mut printed = 0;
