@@ -18,3 +18,4 @@ pub mod Worked
 pub mod WithinBlock
 pub mod Counting
 pub mod Finished
+pub mod Fired

@@ -1,11 +1,13 @@
 -- How many tuples the streams of a line have in all, where no tuple stands twice.
-use Rattle.std.proofs.Common.{◌≡◌, ℕ, zero, suc, ◌+◌, ◌*◌, ◌<◌, ◌≤◌, Bool, true, false, List, [], ◌∷◌, count_by, drop, slice_get, Some, refl, sym, ap, ap₂, ◌∙◌, le_refl, arith, ◌⊎◌, inl, inr, if◌then◌else◌, nat_eq}
+use Rattle.std.proofs.Common.{◌≡◌, ℕ, zero, suc, ◌+◌, ◌*◌, ◌<◌, ◌≤◌, Bool, true, false, List, [], ◌∷◌, length, count_by, drop, slice_get, Some, refl, sym, ap, ap₂, ◌∙◌, le_refl, arith, ◌⊎◌, inl, inr, if◌then◌else◌, nat_eq}
 use Rattle.std.proofs.lemmas.Bool.{cases_lt, cases_eq, eq-eqb, ne_eqb, cond-true, cond-false}
 use Rattle.std.proofs.lemmas.List.Sums.{sum_by-cons}
+use Rattle.bm_base.specs.Mask.{has_bit}
 use Rattle.line_model.specs.declared.line.Item.{Item}
+use Rattle.line_model.specs.declared.line.Item.TheVariants.{Run, Bar}
 use Rattle.line_model.specs.declared.line.StreamItem.{StreamItem}
 use Rattle.line_model.specs.declared.line.StreamItem.TheVariants.{Do, Wait}
-use Rattle.line_model.specs.Streams.{stream}
+use Rattle.line_model.specs.Streams.{stream, masks, own}
 use Rattle.line_model.specs.Order.{StandsAt}
 use Rattle.unit_law.specs.Determinate.{sum_below}
 use Rattle.unit_law.proofs.Sums.{sum_le, sum_const}
@@ -133,3 +135,32 @@ pub drop_wait : (k : ℕ) (xs : List StreamItem) → slice_get xs k ≡ Some Wai
 drop_wait k [] e = absurd (cc)
 drop_wait zero (x ∷ xs) e = let q : x ≡ Wait = cc in let y : 0 + count_by is_run xs ≡ count_by is_run xs = omega arith in count_cons is_run x xs ∙ ap (λ i. one_if (is_run i) + count_by is_run xs) q ∙ y
 drop_wait (suc k) (x ∷ xs) e = drop_wait k xs e
+
+-- ---- the length of a stream
+stream_length : (p : ℕ) (line : List Item) → length (stream p line) ≤ count_by is_run (stream p line) + length (masks line)
+stream_length p [] = omega arith
+stream_length p (Run q t ∷ items) = go (nat_eq q p) (stream_length p items)
+  where
+    go : (v : Bool) → length (stream p items) ≤ count_by is_run (stream p items) + length (masks items) → length (own v (Do t) (stream p items)) ≤ count_by is_run (own v (Do t) (stream p items)) + length (masks items)
+    go true ih = let x = count_cons is_run (Do t) (stream p items) in omega arith
+    go false ih = ih
+stream_length p (Bar m ∷ items) = go (has_bit m p) (stream_length p items)
+  where
+    go : (v : Bool) → length (stream p items) ≤ count_by is_run (stream p items) + length (masks items) → length (own v Wait (stream p items)) ≤ count_by is_run (own v Wait (stream p items)) + length (m ∷ masks items)
+    go true ih = let x = count_cons is_run Wait (stream p items) in omega arith
+    go false ih = omega arith
+
+term_le : (f : ℕ → ℕ) (n p : ℕ) → p < n → f p ≤ sum_below f n
+term_le f zero p lt = absurd (omega arith)
+term_le f (suc n) p lt = go (cases_eq p n) (term_le f n p)
+  where
+    go : (p ≡ n) ⊎ (p ≡ n → ⊥) → (p < n → f p ≤ sum_below f n) → f p ≤ sum_below f (suc n)
+    go (inl e) ih = let x = ap f e in omega arith
+    go (inr ne) ih = let x = ih (omega arith) in omega arith
+
+-- at most one item for each tuple and each mask
+pub few_items : (n tuples p : ℕ) (line : List Item) → p < n → ((t p k : ℕ) → StandsAt line t p k → t < tuples) → ((t p k q l : ℕ) → StandsAt line t p k → StandsAt line t q l → (p ≡ q) × (k ≡ l)) → length (stream p line) ≤ tuples + length (masks line)
+few_items n tuples p line lt within once =
+    let a = all_runs n tuples line within once in
+    let b = term_le (λ p. count_by is_run (stream p line)) n p lt in
+    let c = stream_length p line in omega arith

@@ -1,4 +1,4 @@
-use Rattle.std.proofs.Common.{◌≡◌, ℕ, ◌+◌, ◌<◌, length, get_or, ap, ◌∙◌, arith, if◌then◌else◌}
+use Rattle.std.proofs.Common.{◌≡◌, ℕ, ◌+◌, ◌<◌, length, get_or, sym, ap, ◌∙◌, arith, if◌then◌else◌}
 use Rattle.std.proofs.lemmas.List.{length-set, drop-set-lt}
 use Rattle.std.proofs.lemmas.Option.{slice_get-get_or}
 use Rattle.unit_law.specs.Steps.{resumed}
@@ -12,7 +12,7 @@ after_fire-requires c =
     let same = here_same c.loop-p.actors c.args.actors.now c.loop-p.p resting c.loop-p.invariant.rest in
     let here = slice_get-get_or c.args.actors.now c.loop-p.p resting c.loop-p-test.true in
     let short = c.requires.short c.loop-p.p _ here in
-    rw same short
+    λ t. rw same (short (sym c.has.ensures.value ∙ t))
 
 pub loop-p-preserved : goal.loop-p-preserved
 loop-p-preserved c =
