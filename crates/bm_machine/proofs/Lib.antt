@@ -19,3 +19,4 @@ pub mod WithinBlock
 pub mod Counting
 pub mod Finished
 pub mod Fired
+pub mod Leaves

@@ -23,7 +23,7 @@ use std::alloc::{AllocError, Global};
 use std::marker::Model;
 use timing_script::Timing;
 use tuple_ir::{Event, Next, Tuple, class};
-use unit_law::{BarrierUnit, choices_are_lawful, waiting_processors_have_masks};
+use unit_law::{BarrierUnit, canonical_runs_are_runs, choices_are_lawful, waiting_processors_have_masks};
 
 /// A run of a core on a barrier unit with a timing.
 #[derive(Drop)]
@@ -367,6 +367,22 @@ impl<'a, U: BarrierUnit, T: Timing> Machine<'a, U, T> {
         }
     }
 
+    /// Where nothing else can be done within a block, its streams have ended, and the canonical run
+    /// leaves it.
+    fn leaves(&self, block: u32)
+        requires within { self.now.state.mode ≡ In block }
+        requires none_due { due_finish self.now.program self.now.state ≡ None }
+        requires none_fires { answer_at (U.choice self.now.unit) self.now.program block self.now.state ≡ None }
+        requires none_starts { first_from (can_start (code_at self.now.program block) self.now.state) 0 self.now.program.machine.processors ≡ None }
+        requires none_works { least_tick self.now.state.clock self.now.state.processors ≡ None }
+        ensures may { May self.now.program self.now.state Branch }
+        ensures canonical { block_branch self.now.program (code_at self.now.program block) self.now.state ≡ Some Branch }
+    {
+        self.facts();
+        canonical_runs_are_runs();
+        let _clock = self.clock;
+    }
+
     /// Leaves a block where nothing else can be done, unless the next is entered past `until`.
     fn branch(&mut self, block: u32, until: u64) -> Event
         requires within { self.old.state.mode ≡ In block }
@@ -383,6 +399,7 @@ impl<'a, U: BarrierUnit, T: Timing> Machine<'a, U, T> {
         ensures canonical { block_branch self.old.program (code_at self.old.program block) self.old.state ≡ Some Branch }
         ensures branches { branches self.old.program block until self.old.state result self.new.state }
     {
+        self.leaves(block);
         match self.target(block) {
             None => self.halt(block),
             Some(_) if self.clock >= until => Event::Reached,
