@@ -8,6 +8,8 @@ pub mod HeldKinds
 pub mod Ticks
 pub mod KindsKept
 pub mod ClassTimes
+pub mod Passing
+pub mod Moved
 pub mod LineCounts
 pub mod Falls
 pub mod Determined
@@ -17,3 +19,5 @@ pub mod WithinBlock
 pub mod Counting
 pub mod Finished
 pub mod Started
+pub mod Fired
+pub mod Leaves
