@@ -9,6 +9,8 @@ mod machine;
 mod plan;
 mod program;
 mod search;
+#[cfg(test)]
+mod tests;
 mod work;
 
 pub use actor::{Actor, Stage, Task};
