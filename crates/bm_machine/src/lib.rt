@@ -15,7 +15,7 @@ mod work;
 
 pub use actor::{Actor, Stage, Task};
 pub use history::History;
-pub use laws::cores_keep_each_block;
+pub use laws::{cores_keep_each_block, worked_cores};
 pub use machine::Machine;
 pub use plan::Plan;
 pub use program::Core;
