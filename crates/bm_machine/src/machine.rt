@@ -375,6 +375,7 @@ impl<'a, U: BarrierUnit, T: Timing> Machine<'a, U, T> {
         requires none_fires { answer_at (U.choice self.now.unit) self.now.program block self.now.state ≡ None }
         requires none_starts { first_from (can_start (code_at self.now.program block) self.now.state) 0 self.now.program.machine.processors ≡ None }
         requires none_works { least_tick self.now.state.clock self.now.state.processors ≡ None }
+        ensures block { block < length self.now.program.blocks }
         ensures may { May self.now.program self.now.state Branch }
         ensures canonical { block_branch self.now.program (code_at self.now.program block) self.now.state ≡ Some Branch }
     {
