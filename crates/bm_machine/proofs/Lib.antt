@@ -18,5 +18,6 @@ pub mod Worked
 pub mod WithinBlock
 pub mod Counting
 pub mod Finished
+pub mod Started
 pub mod Fired
 pub mod Leaves

@@ -1,5 +1,6 @@
 use Rattle.bm_machine.proofs.Falls.{few_left}
 use Rattle.bm_machine.proofs.Finished.{finish_kept}
+use Rattle.bm_machine.proofs.Started.{start_kept}
 use Rattle.bm_machine.proofs.Counting.{entered_left}
 use Rattle.bm_machine.proofs.Worked.{names_held}
 use Rattle.bm_machine.proofs.WithinBlock.{kept_work}
