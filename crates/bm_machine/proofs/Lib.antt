@@ -21,3 +21,5 @@ pub mod Finished
 pub mod Started
 pub mod Fired
 pub mod Leaves
+pub mod Nexts
+pub mod Answering
