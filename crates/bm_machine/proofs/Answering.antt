@@ -7,15 +7,17 @@ use Rattle.tuple_ir.specs.declared.event.Event.TheVariants.{Started, Finished, P
 use Rattle.line_model.specs.declared.line.StreamItem.TheVariants.{Do}
 use Rattle.line_model.specs.Streams.{masks}
 use Rattle.unit_law.specs.State.{Code, Program, Mode, In, Entering, Ended, State, code_at, processor, is_due, next_item}
-use Rattle.unit_law.specs.Units.{Choice}
+use Rattle.unit_law.specs.Units.{Choice, first_from}
 use Rattle.unit_law.specs.Steps.{Action, Finish, Fire, Start, Branch, Advance, Enter, May, may_to, after, after_to, after_in, target, least_tick, or_clock}
 use Rattle.unit_law.specs.OnUnit.{answer_at}
-use Rattle.unit_law.specs.Canonical.{Durations, time_for, next_to}
+use Rattle.unit_law.specs.Canonical.{Durations, numbered, time_for, next_to}
 use Rattle.unit_law.proofs.Ordered.{started_mode}
 use Rattle.unit_law.proofs.Meets.{started_clock}
 use Rattle.bm_machine.specs.Shown.{HasCounts}
 use Rattle.bm_machine.specs.Next.{IsNextAction, counts_after, Takes, StandsFor, Gives, tells, is_at, printed_by, clock_then, event_clock, is_last, goes_on, left_in, still}
 use Rattle.bm_machine.specs.Moves.{Starts, Finishes, finish_event, fires, branches, Answers}
+use Rattle.unit_law.proofs.ReadyFacts.{first_passes}
+use Rattle.bm_machine.proofs.Nexts.{finish_next}
 use Rattle.bm_machine.proofs.Falls.{advance_still, enters}
 
 -- an event with which the run goes on is neither of the other two
@@ -203,6 +205,15 @@ module _ (choice : Choice) (durations : Durations) (m : Program) (counts : List 
             (subst (λ e. is_at e s') (sym f.event_is) (at_finish f.print (after m s Advance).clock p f.tuple f.value s' (clock ∙ sym now)))
             (f.output ∙ ap (λ x. x.world.output ++ printed_by event) advance_is)
             (omega arith) (omega arith)
+
+      pub waiting_answers : (p : ℕ) (event : Event) (counts' : List ℕ) (s' : State) (m1 m2 : Program) (s1 : State) → m1 ≡ m → m2 ≡ m → s1 ≡ after m s Advance → length s.processors ≡ m.machine.processors → May m s Advance → ((past : List Action) → next_to choice durations m s.mode past s ≡ Some Advance) → first_from (λ p. is_due s1.clock (processor s1 p).work) 0 m1.machine.processors ≡ Some p → Finishes m1 b p s1 event s' → left_in m2 s' s'.mode < left_in m1 s1 s1.mode → counts' ≡ counts → s.clock ≤ tick → tick ≤ until → Answers choice durations m counts s until event counts' s'
+      waiting_answers p event counts' s' m1 m2 s1 em1 em2 es long may next first f left c later early =
+          let mode : (after m s Advance).mode ≡ In b = ap (λ t. t.mode) advance_is ∙ inside in
+          let first' = subst (λ x. first_from (λ p. is_due (after m s Advance).clock (processor (after m s Advance) p).work) 0 x.machine.processors ≡ Some p) em1 (subst (λ x. first_from (λ p. is_due x.clock (processor x p).work) 0 m1.machine.processors ≡ Some p) es first) in
+          let f' = subst (λ x. Finishes x b p (after m s Advance) event s') em1 (subst (λ x. Finishes m1 b p x event s') es f) in
+          let left' = subst (λ x. left_in x s' s'.mode < left_in m (after m s Advance) (after m s Advance).mode) em2 (subst (λ x. left_in m2 s' s'.mode < left_in x (after m s Advance) (after m s Advance).mode) em1 (subst (λ x. left_in m2 s' s'.mode < left_in m1 x x.mode) es left)) in
+          let due = (first_passes (λ p. is_due (after m s Advance).clock (processor (after m s Advance) p).work) 0 m.machine.processors p first').0 in
+          wait_answers p event counts' s' long may next f' (subst (λ o. may_to m o (after m s Advance) (Finish p)) (sym mode) due) (λ past. finish_next choice durations m (after m s Advance) b mode past p (ap (numbered Finish) first')) c later early left'
 
     -- the block is left
     module _ (may : May m s Branch) (next : (past : List Action) → next_to choice durations m s.mode past s ≡ Some Branch) (early : s.clock ≤ until) where
