@@ -23,3 +23,5 @@ pub mod Fired
 pub mod Leaves
 pub mod Lined
 pub mod Examples
+pub mod Nexts
+pub mod Answering

@@ -1,5 +1,5 @@
 -- What the engine's moves do, each an action of the machine or two, in block b.
-use Rattle.std.specs.Prelude.{◌≡◌, ℕ, ◌+◌, ◌<◌, ◌≤◌, Bool, true, false, List, [], ◌∷◌, ◌++◌, Option, Some, None, length, slice_get, ℤ}
+use Rattle.std.specs.Prelude.{◌≡◌, ℕ, ◌+◌, ◌<◌, ◌≤◌, ◌↔◌, Bool, true, false, List, [], ◌∷◌, ◌++◌, Option, Some, None, length, slice_get, ℤ}
 use Rattle.tuple_ir.specs.declared.event.Event.{Event}
 use Rattle.tuple_ir.specs.declared.event.Event.TheVariants.{Started, Finished, Printed, Fired, Entered, Ended as Over, Reached}
 use Rattle.line_model.specs.declared.line.StreamItem.TheVariants.{Do}
@@ -10,9 +10,9 @@ use Rattle.unit_law.specs.Fit.{HasTimes}
 use Rattle.bm_machine.specs.Core.{IsCore}
 use Rattle.unit_law.specs.Steps.{Action, Finish, Fire, Start, Branch, Advance, Enter, May, after, target}
 use Rattle.unit_law.specs.OnUnit.{answer_at}
-use Rattle.unit_law.specs.Canonical.{Durations, time_for}
+use Rattle.unit_law.specs.Canonical.{Durations, time_for, next_to}
 use Rattle.bm_machine.specs.Shown.{HasCounts, IsReached}
-use Rattle.bm_machine.specs.Next.{counts_after, Gives, printed_by, left_in}
+use Rattle.bm_machine.specs.Next.{counts_after, Gives, printed_by, left_in, Takes, StandsFor, tells, is_at, event_clock, is_last, goes_on, still}
 
 -- what always holds of a program that a machine runs, and of its state
 pub record Stands (m : Program) (s : State) : Type 0 where
@@ -61,3 +61,14 @@ branches m b until s (Over at) s' = (at ≡ s.clock) × (target (code_at m b).ne
 branches m b until s (Entered at c) s' = (at ≡ s.clock + 1) × (s.clock < until) × (target (code_at m b).next s.world ≡ Entering c) × (s' ≡ after m (after m s Branch) Enter) × (left_in m s' s'.mode < 1000)
 branches m b until s Reached s' = (until ≤ s.clock) × ((c : ℕ) × (target (code_at m b).next s.world ≡ Entering c)) × (s' ≡ s)
 branches m b until s _ s' = ⊥
+
+-- what a call of `next` answers, and what it leaves
+pub record Answers (choice : Choice) (durations : Durations) (m : Program) (counts : List ℕ) (s : State) (until : ℕ) (event : Event) (counts' : List ℕ) (s' : State) : Type 0 where
+  pub steps : (actions : List Action) × StandsFor event actions × Takes choice durations m counts s actions counts' s'
+  pub told : (block : ℕ) → s.mode ≡ In block → tells (code_at m block) s event
+  pub at : is_at event s'
+  pub output : s'.world.output ≡ s.world.output ++ printed_by event
+  pub reached : (past : List Action) → HasCounts counts past → (event ≡ Reached) ↔ (until < event_clock m s (next_to choice durations m s.mode past s))
+  pub ended : (past : List Action) → HasCounts counts past → (event ≡ Over s.clock) ↔ ((s.clock ≤ until) × is_last m s (next_to choice durations m s.mode past s))
+  pub in_time : s.clock ≤ until → s'.clock ≤ until
+  pub falls : goes_on event ≡ true → still until m s' < still until m s

@@ -10,7 +10,7 @@ ghost use Rattle.unit_law.specs.OnUnit.{answer_at, answers_lawfully};
 ghost use Rattle.unit_law.specs.Canonical.{can_start, due_finish, block_branch, next_to};
 ghost use Rattle.bm_machine.specs.Shown.{HasCounts};
 ghost use Rattle.bm_machine.specs.Next.{Takes, StandsFor, tells, is_at, printed_by, event_clock, is_last, goes_on, left_in, still};
-ghost use Rattle.bm_machine.specs.Moves.{Stands, Starts, Finishes, fires, branches};
+ghost use Rattle.bm_machine.specs.Moves.{Stands, Starts, Finishes, fires, branches, Answers};
 
 use crate::actor::{Actor, Stage, Task};
 use crate::arrive::{pass, tell};
@@ -119,6 +119,8 @@ impl<'a, U: BarrierUnit, T: Timing> Machine<'a, U, T> {
     fn facts(&self)
         ensures stands { Stands self.now.program self.now.state }
         ensures lawful { (b : ℕ) → self.now.state.mode ≡ In b → answers_lawfully (U.choice self.now.unit) self.now.program self.now.state (In b) }
+        ensures ticks { (b tick : ℕ) → self.now.state.mode ≡ In b → least_tick self.now.state.clock self.now.state.processors ≡ Some tick → self.now.state.clock ≤ tick }
+        ensures blocks { (b : ℕ) → self.now.state.mode ≡ In b → b < length self.now.program.blocks }
     {
         self.core.laws();
         self.core.times();
@@ -399,11 +401,57 @@ impl<'a, U: BarrierUnit, T: Timing> Machine<'a, U, T> {
         ensures canonical { block_branch self.old.program (code_at self.old.program block) self.old.state ≡ Some Branch }
         ensures branches { branches self.old.program block until self.old.state result self.new.state }
     {
+        self.facts();
         self.leaves(block);
         match self.target(block) {
             None => self.halt(block),
             Some(_) if self.clock >= until => Event::Reached,
             Some(next) => self.enter(block, next),
+        }
+    }
+
+    /// Moves the clock to the tick at which the next Finish is due, and does it.
+    fn wait(&mut self, block: u32, tick: u64, until: u64) -> Event
+        requires within { self.old.state.mode ≡ In block }
+        requires none_due { due_finish self.old.program self.old.state ≡ None }
+        requires none_fires { answer_at (U.choice self.old.unit) self.old.program block self.old.state ≡ None }
+        requires none_starts { first_from (can_start (code_at self.old.program block) self.old.state) 0 self.old.program.machine.processors ≡ None }
+        requires least { least_tick self.old.state.clock self.old.state.processors ≡ Some tick }
+        requires early { tick ≤ until }
+        requires limit { until ≤ 1000000000000 }
+        ensures program { self.new.program ≡ self.old.program }
+        ensures choice { U.choice self.new.unit ≡ U.choice self.old.unit }
+        ensures timing { self.new.timing ≡ self.old.timing }
+        ensures answers { Answers (U.choice self.old.unit) (T.duration self.old.timing) self.old.program self.old.counts self.old.state until result self.new.counts self.new.state }
+    {
+        self.facts();
+        self.advance(block, tick);
+        match self.lowest_due() {
+            Some(p) => self.finish(block, p),
+            None => unreachable!(),
+        }
+    }
+
+    /// Where no Finish is due and nothing fires: a Start, the next Finish, or the block's end.
+    fn go_on(&mut self, block: u32, until: u64) -> Event
+        requires within { self.old.state.mode ≡ In block }
+        requires none_due { due_finish self.old.program self.old.state ≡ None }
+        requires none_fires { answer_at (U.choice self.old.unit) self.old.program block self.old.state ≡ None }
+        requires early { self.old.state.clock ≤ until }
+        requires limit { until ≤ 1000000000000 }
+        ensures program { self.new.program ≡ self.old.program }
+        ensures choice { U.choice self.new.unit ≡ U.choice self.old.unit }
+        ensures timing { self.new.timing ≡ self.old.timing }
+        ensures answers { Answers (U.choice self.old.unit) (T.duration self.old.timing) self.old.program self.old.counts self.old.state until result self.new.counts self.new.state }
+    {
+        self.facts();
+        if let Some(p) = self.lowest_start(block) {
+            return self.start(block, p);
+        }
+        match self.least_tick() {
+            None => self.branch(block, until),
+            Some(tick) if tick > until => Event::Reached,
+            Some(tick) => self.wait(block, tick, until),
         }
     }
 
@@ -428,11 +476,12 @@ impl<'a, U: BarrierUnit, T: Timing> Machine<'a, U, T> {
         ensures in_time { self.old.state.clock ≤ until → self.new.state.clock ≤ until }
         ensures falls { goes_on result ≡ true → still until self.new.program self.new.state < still until self.old.program self.old.state }
     {
-        if self.clock > until {
+        self.facts();
+        if self.clock() > until {
             return Event::Reached;
         }
         let Some(block) = self.block() else {
-            return Event::Ended { at: self.clock };
+            return Event::Ended { at: self.clock() };
         };
         if let Some(p) = self.lowest_due() {
             return self.finish(block, p);
@@ -440,19 +489,6 @@ impl<'a, U: BarrierUnit, T: Timing> Machine<'a, U, T> {
         if let Some(event) = self.fire(block) {
             return event;
         }
-        if let Some(p) = self.lowest_start(block) {
-            return self.start(block, p);
-        }
-        match self.least_tick() {
-            None => self.branch(block, until),
-            Some(tick) if tick > until => Event::Reached,
-            Some(tick) => {
-                self.advance(block, tick);
-                match self.lowest_due() {
-                    Some(p) => self.finish(block, p),
-                    None => unreachable!(),
-                }
-            }
-        }
+        self.go_on(block, until)
     }
 }
