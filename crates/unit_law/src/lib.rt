@@ -11,13 +11,16 @@
 mod unit;
 mod worked;
 
-ghost use Rattle.std.specs.Prelude.{◌≡◌, ℕ, List};
+ghost use Rattle.std.specs.Prelude.{◌≡◌, ℕ, true, List, length, Option, Some, None};
+ghost use Rattle.bm_base.specs.Mask.{has_bit};
 ghost use Rattle.bm_base.specs.Memory.{Content};
-ghost use Rattle.unit_law.specs.State.{Program, State};
-ghost use Rattle.unit_law.specs.Units.{Choice, static_choice, dynamic_choice};
-ghost use Rattle.unit_law.specs.Steps.{Action, state_after, IsRun, IsStateRun, states_of};
-ghost use Rattle.unit_law.specs.OnUnit.{IsRunOn, answers_lawfully, IsLawfulChoice, IsFront};
-ghost use Rattle.unit_law.specs.Canonical.{Durations, IsTiming, canonical, IsCanonical};
+ghost use Rattle.tuple_ir.specs.Memories.{IsMemoryOf};
+ghost use Rattle.line_model.specs.Streams.{masks};
+ghost use Rattle.unit_law.specs.State.{Program, State, In, Ended, code_at, waits, waiting_mask};
+ghost use Rattle.unit_law.specs.Units.{Choice, IsLawful, has_unfired, static_choice, dynamic_choice};
+ghost use Rattle.unit_law.specs.Steps.{Action, May, state_after, IsRun, IsStateRun, states_of};
+ghost use Rattle.unit_law.specs.OnUnit.{IsRunOn, answer_at, answers_lawfully, IsLawfulChoice, IsFront};
+ghost use Rattle.unit_law.specs.Canonical.{Durations, IsTiming, next_to, next_action, canonical, IsCanonical};
 ghost use Rattle.unit_law.specs.Fit.{AllEarly, AllFit, AllLead, AllStand, IsSynced, HasTimes};
 ghost use Rattle.unit_law.specs.Determinate.{RespectsConflicts, NeverStuck, IsDeterminate};
 ghost use Rattle.unit_law.specs.InOrder.{KeepsOrder, MeansSerialOrder};
@@ -34,11 +37,13 @@ pub fn runs_are_states()
 
 /// The choices of both kinds of units are lawful: the static unit's at every state of a run on it,
 /// the dynamic unit's at every state of any run. On the static unit the fired masks are always a
-/// prefix of the queue.
+/// prefix of the queue. An answer is lawful at a state where it is lawful by the mask of those that
+/// wait.
 pub fn choices_are_lawful()
     ensures static_unit { (m : Program) → IsLawfulChoice static_choice m }
     ensures prefix { (m : Program) (memory : List Content) (past : List Action) → IsRunOn static_choice m memory past → IsFront (state_after m memory past).fired }
     ensures dynamic_unit { (m : Program) (memory : List Content) (past : List Action) → IsRun m memory past → answers_lawfully dynamic_choice m (state_after m memory past) (state_after m memory past).mode }
+    ensures by_mask { (choice : Choice) (m : Program) (s : State) (b : ℕ) → IsLawful (masks (code_at m b).line) s.fired (has_bit (waiting_mask (code_at m b) s)) (answer_at choice m b s) → answers_lawfully choice m s (In b) }
 {}
 
 /// Each run on a lawful unit is a run of the machine, so what is proved of every run holds on every
@@ -48,10 +53,21 @@ pub fn lawful_units_run()
 {}
 
 /// The canonical run on a unit with a timing is a run on that unit, however many of its actions are
-/// taken.
+/// taken. Where the unit answers lawfully, what it takes next may be taken, and there is such an
+/// action until the run's end.
 pub fn canonical_runs_are_runs()
     ensures on_unit { (choice : Choice) (durations : Durations) (m : Program) → AllFit m → HasTimes m → IsTiming durations → (memory : List Content) (past : List Action) → IsCanonical choice durations m memory past → IsRunOn choice m memory past }
     ensures begins { (choice : Choice) (durations : Durations) (m : Program) (memory : List Content) (n : ℕ) → IsCanonical choice durations m memory (canonical choice durations m memory n) }
+    ensures may { (choice : Choice) (durations : Durations) (m : Program) → AllFit m → HasTimes m → IsTiming durations → (past : List Action) (s : State) → length s.processors ≡ m.machine.processors → answers_lawfully choice m s s.mode → (a : Action) → next_to choice durations m s.mode past s ≡ Some a → May m s a }
+    ensures ends { (choice : Choice) (durations : Durations) (m : Program) → AllFit m → HasTimes m → IsTiming durations → (memory : List Content) (past : List Action) → IsMemoryOf m.names memory → IsRun m memory past → answers_lawfully choice m (state_after m memory past) (state_after m memory past).mode → next_action choice durations m memory past ≡ None → (state_after m memory past).mode ≡ Ended }
+{}
+
+/// In every run there are as many processors as the machine has, and within a block each processor
+/// that waits is a member of a mask that has not fired. The mask of those that wait has their bits.
+pub fn waiting_processors_have_masks()
+    ensures processors { (m : Program) (memory : List Content) (past : List Action) → length (state_after m memory past).processors ≡ m.machine.processors }
+    ensures waiting { (m : Program) (b p : ℕ) (s : State) → has_bit (waiting_mask (code_at m b) s) p ≡ waits (code_at m b) s p }
+    ensures masks { (m : Program) → AllFit m → (memory : List Content) (past : List Action) → IsRun m memory past → (b p : ℕ) → (state_after m memory past).mode ≡ In b → waits (code_at m b) (state_after m memory past) p ≡ true → has_unfired (masks (code_at m b).line) (state_after m memory past).fired p ≡ true }
 {}
 
 /// Where each conflicting pair is ordered by processor or by barrier, each producer has finished, in

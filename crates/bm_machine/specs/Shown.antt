@@ -1,0 +1,92 @@
+-- What callers see of a running machine.
+use Rattle.std.specs.Prelude.{◌≡◌, ℕ, ◌+◌, ◌≤◌, ◌<◌, List, [], ◌∷◌, take, map, length, get_or, Some}
+use Rattle.bm_base.specs.Entry.{Entry}
+use Rattle.bm_base.specs.Memory.{Content, IsVariable, IsArray}
+use Rattle.tuple_ir.specs.declared.tuple.Tuple.{Tuple}
+use Rattle.tuple_ir.specs.Memories.{IsMemoryOf}
+use Rattle.line_model.specs.Streams.{masks}
+use Rattle.unit_law.specs.State.{Program, Mode, In, Entering, Ended, State, Processor, Work, Idle, Busy, Code, code_at, processor, waiting_mask}
+use Rattle.unit_law.specs.Steps.{Action, IsRun, tuple_at, state_after}
+use Rattle.unit_law.specs.Canonical.{starts}
+use Rattle.bm_machine.specs.Core.{NamesVariable, NamesArray}
+use Rattle.bm_machine.specs.Work.{arity}
+use Rattle.bm_machine.specs.declared.actor.Task.{Task}
+use Rattle.bm_machine.specs.declared.actor.Task.TheVariants.{Rest, Runs}
+use Rattle.bm_machine.specs.declared.actor.Actor.{Actor}
+use Rattle.bm_machine.specs.declared.actor.Stage.{Stage}
+use Rattle.bm_machine.specs.declared.actor.Stage.TheVariants.{Inside, Over}
+
+-- what it runs, the state that it is in, how many instructions each processor has started in the whole run, and its unit and timing
+pub record Shown (U T : Type 0) : Type 0 where
+  pub program : Program
+  pub state : State
+  pub counts : List ℕ
+  pub unit : U
+  pub timing : T
+
+abbrev pub work_of : Task → Work
+work_of Rest = Idle
+work_of (Runs until tuple count first second) = Busy until tuple (take count (first ∷ second ∷ []))
+
+abbrev pub processor_of : Actor → Processor
+processor_of a = record { place = a.place; work = work_of a.task }
+
+abbrev pub mode_of : Stage → Mode
+mode_of (Inside block) = In block
+mode_of Over = Ended
+
+-- the counts are those of the Starts in these actions
+abbrev pub HasCounts : List ℕ → List Action → Type 0
+HasCounts counts past = (p : ℕ) → get_or counts p 0 ≡ starts p past
+
+-- the state is the last of a run from a memory of the names, and the counts are those of the Starts in this run
+pub record IsReached (m : Program) (s : State) (counts : List ℕ) : Type 0 where
+  pub memory : List Content
+  pub is_memory : IsMemoryOf m.names memory
+  pub past : List Action
+  pub run : IsRun m memory past
+  pub last : state_after m memory past ≡ s
+  pub counted : HasCounts counts past
+
+-- within a block the unit's masks and waiting set are those of the state
+abbrev pub unit_agrees : Program → State → Mode → List ℕ → ℕ → Type 0
+unit_agrees m s (In b) queue waiting = (queue ≡ masks (code_at m b).line) × (waiting ≡ waiting_mask (code_at m b) s)
+unit_agrees m s (Entering b) queue waiting = ⊥
+unit_agrees m s Ended queue waiting = Unit {0}
+
+-- each declared name is held as its kind asks
+pub record HasKinds (names : List Entry) (memory : List Content) : Type 0 where
+  pub variables : (x : ℕ) → NamesVariable names x → IsVariable memory x
+  pub arrays : (x : ℕ) → NamesArray names x → IsArray memory x
+
+-- what a processor works on is a tuple of the block, with as many words as it reads; its tick is not past, and at most the greatest
+-- time away; and what it has started in the whole run took a tick each
+abbrev pub works_rightly : Code → ℕ → ℕ → Work → Type 0
+works_rightly code clock count Idle = count ≤ clock
+works_rightly code clock count (Busy until t rs) = (clock ≤ until) × (until ≤ clock + 1000) × (count ≤ until) × (count ≤ clock + 1) × ((x : Tuple) × (tuple_at code t ≡ Some x) × (length rs ≡ arity x))
+
+abbrev pub all_work_rightly : Program → State → List ℕ → Mode → Type 0
+all_work_rightly m s counts (In b) = (b < length m.blocks) × ((p : ℕ) → works_rightly (code_at m b) s.clock (get_or counts p 0) (processor s p).work)
+all_work_rightly m s counts (Entering b) = ⊥
+all_work_rightly m s counts Ended = Unit {0}
+
+-- what a machine keeps; told is the mask of those of whom the unit was told, and capacity, queue and waiting are the unit's
+pub record IsKept (m : Program) (s : State) (counts : List ℕ) (told capacity : ℕ) (queue : List ℕ) (waiting : ℕ) : Type 0 where
+  pub reached : IsReached m s counts
+  pub early : s.clock ≤ 1000000000000
+  pub few : (p : ℕ) → get_or counts p 0 ≤ s.clock + 1
+  pub long : length counts ≡ m.machine.processors
+  pub cells : length s.world.cells ≡ 128
+  pub kinds : HasKinds m.names s.world.memory
+  pub work : all_work_rightly m s counts s.mode
+  pub room : (b : ℕ) → length (masks (code_at m b).line) ≤ capacity
+  pub told_is : waiting ≡ told
+  pub agrees : unit_agrees m s s.mode queue waiting
+
+-- these actors as a state: what it says of clock, mode, masks and world is of no account
+abbrev pub standing : List Actor → State
+standing actors = record { clock = 0; mode = Ended; processors = map processor_of actors; fired = []; world = record { cells = []; memory = []; output = [] } }
+
+-- these actors as a state at this clock
+abbrev pub standing_at : ℕ → List Actor → State
+standing_at clock actors = record { clock = clock; mode = Ended; processors = map processor_of actors; fired = []; world = record { cells = []; memory = []; output = [] } }
