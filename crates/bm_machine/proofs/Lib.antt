@@ -23,3 +23,4 @@ pub mod Fired
 pub mod Leaves
 pub mod Nexts
 pub mod Answering
+pub mod Entering
