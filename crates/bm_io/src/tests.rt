@@ -124,3 +124,61 @@ fn real_files_are_read_up_to_the_limit(rt: HostRuntime) -> Result<(), Fail> {
     }
     Ok(())
 }
+
+fn take_all<V: Values>(out: &mut V, values: &[i64]) -> Result<(), SinkFault> {
+    for value in values {
+        out.value(*value)?;
+    }
+    Ok(())
+}
+
+const WORDS: [i64; 4] = [7, -8, 0, i64::MIN];
+
+#[test]
+fn values_are_written_as_lines_up_to_a_refusal(rt: HostRuntime) -> Result<(), Fail> {
+    // A call that fails after so many bytes, or that is refused, with the answer and the text.
+    let whole = "7\n-8\n0\n-9223372036854775808\n";
+    let calls = [
+        (9, Some(0), Ok(()), whole),
+        (1, Some(0), Err(SinkFault::Failed), ""),
+        (2, Some(2), Err(SinkFault::Failed), "7\n-8"),
+        (3, Some(9), Err(SinkFault::Failed), "7\n-8\n0\n"),
+        (2, None, Err(SinkFault::Memory), "7\n"),
+    ];
+    for (call, taken, answer, text) in calls {
+        let mut sink = MemSink::new(rt.alloc());
+        match taken {
+            Some(bytes) => sink.fail(call, bytes)?,
+            None => sink.refuse(call)?,
+        }
+        let mut lines = LineValues::new(&mut sink);
+        assert_eq!(rt; take_all(&mut lines, &WORDS), answer, "{text}");
+        assert_eq!(rt; sink.taken(), text.as_bytes(), "{text}");
+    }
+    Ok(())
+}
+
+#[test]
+fn values_are_counted_and_folded(rt: HostRuntime) {
+    let mut kept = FoldValues::default();
+    assert_eq!(rt; take_all(&mut kept, &WORDS[..3]), Ok(()));
+    assert_eq!(rt;
+        kept,
+        FoldValues {
+            count: 3,
+            fold: 6479
+        }
+    );
+    let mut last = FoldValues {
+        count: u64::MAX,
+        fold: i64::MAX,
+    };
+    assert_eq!(rt; take_all(&mut last, &[0]), Ok(()));
+    assert_eq!(rt;
+        last,
+        FoldValues {
+            count: 0,
+            fold: i64::MAX - 30
+        }
+    );
+}
