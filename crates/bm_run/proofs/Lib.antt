@@ -1,3 +1,4 @@
 pub mod Later
 pub mod OneRun
 pub mod Coming
+pub mod Going
