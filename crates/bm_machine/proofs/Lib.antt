@@ -8,3 +8,16 @@ pub mod HeldKinds
 pub mod Ticks
 pub mod KindsKept
 pub mod ClassTimes
+pub mod Passing
+pub mod Moved
+pub mod LineCounts
+pub mod Falls
+pub mod Determined
+pub mod ByBlock
+pub mod Worked
+pub mod WithinBlock
+pub mod Counting
+pub mod Finished
+pub mod Started
+pub mod Fired
+pub mod Leaves

@@ -23,25 +23,28 @@ streams_of_at (suc n) line p d lt = go (cases_lt p n) (streams_of_at n line p d)
     go (inr g) ih = let e : p ≡ n = omega arith in ap (λ i. get_or (streams_of (suc n) line) i d) (e ∙ sym (length-streams_of n line)) ∙ get_or-append_seam (streams_of n line) (stream n line) [] d ∙ ap (λ i. stream i line) (sym e)
 
 -- the plan at a place is that of the line there
-pub plan_at : (n : ℕ) (lines : List Line) (plans : List Planned) (b : ℕ) (plan : Planned) → plans ≡ map (λ l. planned n l.items) lines → b < length lines → plan ≡ get_or plans b plan → plan ≡ planned n (get_or (map (λ l. l.items) lines) b [])
-plan_at n lines plans b plan e lt is = is ∙ ap (λ l. get_or l b plan) e ∙ go lines b lt
-  where
-    go : (lines : List Line) (b : ℕ) → b < length lines → get_or (map (λ l. planned n l.items) lines) b plan ≡ planned n (get_or (map (λ l. l.items) lines) b [])
-    go [] b lt = absurd (omega arith)
-    go (l ∷ ls) zero lt = refl
-    go (l ∷ ls) (suc b) lt = go ls b (omega arith)
+planned_at : (n : ℕ) (plans : List Planned) (b : ℕ) (plan : Planned) → b < length plans → get_or (map (λ p. planned n p.line) plans) b plan ≡ planned n (get_or (map (λ p. p.line) plans) b [])
+planned_at n [] b plan lt = absurd (omega arith)
+planned_at n (p ∷ ps) zero plan lt = refl
+planned_at n (p ∷ ps) (suc b) plan lt = planned_at n ps b plan (omega arith)
 
-length-lines : (lines : List Line) → length (map (λ l. l.items) lines) ≡ length lines
+pub length-lines : (plans : List Planned) → length (map (λ p. p.line) plans) ≡ length plans
 length-lines [] = refl
-length-lines (l ∷ ls) = ap suc (length-lines ls)
-
-pub length-plans : (n : ℕ) (lines : List Line) → length (map (λ l. planned n l.items) lines) ≡ length (map (λ l. l.items) lines)
-length-plans n [] = refl
-length-plans n (l ∷ ls) = ap suc (length-plans n ls)
+length-lines (p ∷ ps) = ap suc (length-lines ps)
 
 -- the plan at a block is that of the block's line
-pub plan_of_block : (n : ℕ) (lines : List Line) (plans : List Planned) (count b : ℕ) (plan : Planned) → plans ≡ map (λ l. planned n l.items) lines → length (map (λ l. l.items) lines) ≡ count → b < count → plan ≡ get_or plans b plan → plan ≡ planned n (get_or (map (λ l. l.items) lines) b [])
-plan_of_block n lines plans count b plan e long lt is = plan_at n lines plans b plan e (let x = length-lines lines in omega arith) is
+pub plan_of_block : (n : ℕ) (plans : List Planned) (count b : ℕ) (plan : Planned) → plans ≡ map (λ p. planned n p.line) plans → length (map (λ p. p.line) plans) ≡ count → b < count → plan ≡ get_or plans b plan → plan ≡ planned n (get_or (map (λ p. p.line) plans) b [])
+plan_of_block n plans count b plan e long lt is = is ∙ ap (λ l. get_or l b plan) e ∙ planned_at n plans b plan (let x = length-lines plans in omega arith)
+
+-- the plans of lines have these lines
+pub lines_of : (n : ℕ) (lines : List Line) → map (λ p. p.line) (map (λ l. planned n l.items) lines) ≡ map (λ l. l.items) lines
+lines_of n [] = refl
+lines_of n (l ∷ ls) = ap (λ x. l.items ∷ x) (lines_of n ls)
+
+-- and each is that of its line
+pub plans_of : (n : ℕ) (lines : List Line) → map (λ l. planned n l.items) lines ≡ map (λ p. planned n p.line) (map (λ l. planned n l.items) lines)
+plans_of n [] = refl
+plans_of n (l ∷ ls) = ap (λ x. planned n l.items ∷ x) (plans_of n ls)
 
 pub max_low : (a b : ℕ) → (a ≤ ord_max nat_cmp a b) × (b ≤ ord_max nat_cmp a b)
 max_low a b = (grind (arith), grind (arith))

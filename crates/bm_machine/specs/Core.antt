@@ -1,17 +1,19 @@
 -- What a core keeps of the program that it holds.
 use Rattle.std.specs.Prelude.{◌≡◌, ℕ, ◌<◌, ◌≤◌, true, length, Some, slice_get, List, ℤ}
 use Rattle.bm_base.specs.Entry.{Entry}
+use Rattle.bm_base.specs.Mask.{has_bit}
 use Rattle.bm_base.specs.declared.names.Kind.{Kind}
 use Rattle.bm_base.specs.declared.names.Kind.TheVariants.{Var, Array}
 use Rattle.tuple_ir.specs.declared.tuple.Tuple.{Tuple}
 use Rattle.tuple_ir.specs.declared.tuple.Tuple.TheVariants.{Const, Load, Store, LoadEl, StoreEl, One, Two, Print}
 use Rattle.tuple_ir.specs.declared.block.Next.{Next}
 use Rattle.tuple_ir.specs.declared.block.Next.TheVariants.{Halt, Goto, If}
-use Rattle.tuple_ir.specs.Conflict.{uses}
+use Rattle.tuple_ir.specs.Conflict.{Conflict, uses}
 use Rattle.tuple_ir.specs.Kinds.{has_value}
 use Rattle.line_model.specs.Streams.{masks}
+use Rattle.line_model.specs.Order.{StandsAt, IsOrderedBySync}
 use Rattle.unit_law.specs.State.{Code, Program, code_at}
-use Rattle.unit_law.specs.Fit.{AllFit, AllStand, IsSynced, NoneEmpty}
+use Rattle.unit_law.specs.Fit.{IsFit, AllFit, AllStand, IsSynced, NoneEmpty}
 
 -- name x is declared, and names a variable, or an array
 abbrev pub NamesVariable : List Entry → ℕ → Type 0
@@ -60,3 +62,11 @@ pub record IsCore (m : Program) : Type 0 where
   pub stand : AllStand m
   pub none_empty : NoneEmpty m
   pub synced : IsSynced m
+
+-- what a core keeps of one block with its line
+pub record IsLined (m : Program) (code : Code) : Type 0 where
+  pub sound : IsBlockSound m code
+  pub fit : IsFit m code
+  pub stand : (t : ℕ) → t < length code.tuples → (p k : ℕ) × StandsAt code.line t p k
+  pub none_empty : (j mask : ℕ) → slice_get (masks code.line) j ≡ Some mask → (p : ℕ) × (has_bit mask p ≡ true)
+  pub synced : (x y : ℕ) → Conflict code.tuples x y → IsOrderedBySync code.line x y

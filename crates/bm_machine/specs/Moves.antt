@@ -1,16 +1,27 @@
 -- What the engine's moves do, each an action of the machine or two, in block b.
-use Rattle.std.specs.Prelude.{◌≡◌, ℕ, ◌+◌, ◌<◌, ◌≤◌, Bool, true, false, List, [], ◌∷◌, ◌++◌, Option, Some, None, slice_get, ℤ}
+use Rattle.std.specs.Prelude.{◌≡◌, ℕ, ◌+◌, ◌<◌, ◌≤◌, Bool, true, false, List, [], ◌∷◌, ◌++◌, Option, Some, None, length, slice_get, ℤ}
 use Rattle.tuple_ir.specs.declared.event.Event.{Event}
 use Rattle.tuple_ir.specs.declared.event.Event.TheVariants.{Started, Finished, Printed, Fired, Entered, Ended as Over, Reached}
 use Rattle.line_model.specs.declared.line.StreamItem.TheVariants.{Do}
 use Rattle.line_model.specs.Streams.{masks}
-use Rattle.unit_law.specs.State.{Program, Mode, In, Entering, Ended, State, code_at, next_item}
-use Rattle.unit_law.specs.Units.{Choice}
+use Rattle.unit_law.specs.State.{Program, Mode, In, Entering, Ended, State, code_at, next_item, waits}
+use Rattle.unit_law.specs.Units.{Choice, has_unfired}
+use Rattle.unit_law.specs.Fit.{HasTimes}
+use Rattle.bm_machine.specs.Core.{IsCore}
 use Rattle.unit_law.specs.Steps.{Action, Finish, Fire, Start, Branch, Advance, Enter, May, after, target}
 use Rattle.unit_law.specs.OnUnit.{answer_at}
 use Rattle.unit_law.specs.Canonical.{Durations, time_for}
-use Rattle.bm_machine.specs.Shown.{HasCounts}
+use Rattle.bm_machine.specs.Shown.{HasCounts, IsReached}
 use Rattle.bm_machine.specs.Next.{counts_after, Gives, printed_by, left_in}
+
+-- what always holds of a program that a machine runs, and of its state
+pub record Stands (m : Program) (s : State) : Type 0 where
+  pub core : IsCore m
+  pub times : HasTimes m
+  pub processors : length s.processors ≡ m.machine.processors
+  pub few : m.machine.processors ≤ 64
+  -- in each state that the program can reach whoever waits is a member of a mask that has not fired
+  pub unfired : (t : State) (counts : List ℕ) → IsReached m t counts → (b p : ℕ) → t.mode ≡ In b → waits (code_at m b) t p ≡ true → has_unfired (masks (code_at m b).line) t.fired p ≡ true
 
 -- processor p starts its next tuple, which takes the time that the timing gives
 pub record Starts (durations : Durations) (m : Program) (b p : ℕ) (counts : List ℕ) (s : State) (event : Event) (counts' : List ℕ) (s' : State) : Type 0 where

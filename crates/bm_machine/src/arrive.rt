@@ -76,7 +76,7 @@ pub(crate) fn tell<U: BarrierUnit>(
 
 /// A processor after a mask has fired, of which it is a member or not.
 fn after_fire(actor: Actor, is_member: bool) -> Actor
-    requires { actor.place < 18446744073709551615 }
+    requires { IsTrue is_member → actor.place < 18446744073709551615 }
     ensures { processor_of result ≡ (if is_member then resumed (processor_of actor) else processor_of actor) }
 {
     if is_member {
@@ -92,7 +92,7 @@ fn after_fire(actor: Actor, is_member: bool) -> Actor
 /// The members of the mask pass their waits.
 pub(crate) fn pass(actors: &mut [Actor], mask: Mask)
     requires few { length actors.old ≤ 64 }
-    requires short { (p : ℕ) (a : Actor) → slice_get actors.old p ≡ Some a → a.place < 18446744073709551615 }
+    requires short { (p : ℕ) (a : Actor) → slice_get actors.old p ≡ Some a → has_bit mask p ≡ true → a.place < 18446744073709551615 }
     ensures { map processor_of actors.new ≡ passed mask 0 (map processor_of actors.old) }
 {
     for p in 0..actors.len() {

@@ -6,16 +6,16 @@ ghost use Rattle.line_model.specs.Streams.{masks};
 ghost use Rattle.unit_law.specs.State.{In, Entering, Ended, code_at, start, processor, is_due};
 ghost use Rattle.unit_law.specs.Units.{first_from};
 ghost use Rattle.unit_law.specs.Steps.{Action, Advance, Branch, Enter, May, NoneDue, NoneStarts, after, least_tick, target};
-ghost use Rattle.unit_law.specs.OnUnit.{answer_at};
+ghost use Rattle.unit_law.specs.OnUnit.{answer_at, answers_lawfully};
 ghost use Rattle.unit_law.specs.Canonical.{can_start, due_finish, block_branch, next_to};
 ghost use Rattle.bm_machine.specs.Shown.{HasCounts};
 ghost use Rattle.bm_machine.specs.Next.{Takes, StandsFor, tells, is_at, printed_by, event_clock, is_last, goes_on, left_in, still};
-ghost use Rattle.bm_machine.specs.Moves.{Starts, Finishes, fires, branches};
+ghost use Rattle.bm_machine.specs.Moves.{Stands, Starts, Finishes, fires, branches};
 
 use crate::actor::{Actor, Stage, Task};
 use crate::arrive::{pass, tell};
 use crate::search::{least_busy_tick, lowest_due, lowest_start};
-use crate::work::{cell, put, read, value};
+use crate::work::{cell, finish_event, print, put, read, value};
 use crate::{Core, History};
 use bm_base::{Mask, Store};
 use line_model::StreamItem;
@@ -23,7 +23,7 @@ use std::alloc::{AllocError, Global};
 use std::marker::Model;
 use timing_script::Timing;
 use tuple_ir::{Event, Next, Tuple, class};
-use unit_law::BarrierUnit;
+use unit_law::{BarrierUnit, canonical_runs_are_runs, choices_are_lawful, waiting_processors_have_masks};
 
 /// A run of a core on a barrier unit with a timing.
 #[derive(Drop)]
@@ -115,6 +115,18 @@ impl<'a, U: BarrierUnit, T: Timing> Machine<'a, U, T> {
 }
 
 impl<'a, U: BarrierUnit, T: Timing> Machine<'a, U, T> {
+    /// What always holds.
+    fn facts(&self)
+        ensures stands { Stands self.now.program self.now.state }
+        ensures lawful { (b : ℕ) → self.now.state.mode ≡ In b → answers_lawfully (U.choice self.now.unit) self.now.program self.now.state (In b) }
+    {
+        self.core.laws();
+        self.core.times();
+        let _processors = self.core.spec().processors();
+        waiting_processors_have_masks();
+        choices_are_lawful();
+    }
+
     /// The block in which the run is, None once it has ended.
     fn block(&self) -> Option<u32>
         ensures within { IfSome result (λ block. (self.now.state.mode ≡ In block) × (block < length self.now.program.blocks)) }
@@ -130,6 +142,7 @@ impl<'a, U: BarrierUnit, T: Timing> Machine<'a, U, T> {
     fn lowest_due(&self) -> Option<u8>
         ensures { result ≡ first_from (λ p. is_due self.now.state.clock (processor self.now.state p).work) 0 self.now.program.machine.processors }
     {
+        self.facts();
         lowest_due(&self.actors, self.clock)
     }
 
@@ -138,6 +151,7 @@ impl<'a, U: BarrierUnit, T: Timing> Machine<'a, U, T> {
         requires { block < length self.now.program.blocks }
         ensures { result ≡ first_from (can_start (code_at self.now.program block) self.now.state) 0 self.now.program.machine.processors }
     {
+        self.facts();
         lowest_start(self.core, block, &self.actors)
     }
 
@@ -160,6 +174,7 @@ impl<'a, U: BarrierUnit, T: Timing> Machine<'a, U, T> {
         ensures starts { Starts (T.duration self.old.timing) self.old.program block p self.old.counts self.old.state result self.new.counts self.new.state }
         ensures left { left_in self.new.program self.new.state self.new.state.mode < left_in self.old.program self.old.state self.old.state.mode }
     {
+        self.core.laws();
         let actor = self.actors[p as usize];
         let StreamItem::Do { tuple: number } = self.core.stream(block, p)[actor.place] else {
             unreachable!()
@@ -199,6 +214,7 @@ impl<'a, U: BarrierUnit, T: Timing> Machine<'a, U, T> {
         ensures finishes { Finishes self.old.program block p self.old.state result self.new.state }
         ensures left { left_in self.new.program self.new.state self.new.state.mode < left_in self.old.program self.old.state self.old.state.mode }
     {
+        self.core.laws();
         let actor = self.actors[p as usize];
         let Task::Runs {
             tuple: number,
@@ -219,6 +235,7 @@ impl<'a, U: BarrierUnit, T: Timing> Machine<'a, U, T> {
             &mut self.cells,
             &mut self.store,
         );
+        print(tuple, value, &mut self.output);
         self.actors[p as usize] = Actor {
             place: actor.place,
             task: Task::Rest,
@@ -230,21 +247,7 @@ impl<'a, U: BarrierUnit, T: Timing> Machine<'a, U, T> {
             block,
             &self.actors,
         );
-        if let Tuple::Print { .. } = tuple {
-            self.output = self.output.and(&value);
-            return Event::Printed {
-                at: self.clock,
-                processor: p,
-                tuple: number,
-                value,
-            };
-        }
-        Event::Finished {
-            at: self.clock,
-            processor: p,
-            tuple: number,
-            value,
-        }
+        finish_event(tuple, self.clock, p, number, value)
     }
 
     /// Fires the mask that the unit picks.
@@ -257,6 +260,7 @@ impl<'a, U: BarrierUnit, T: Timing> Machine<'a, U, T> {
         ensures counts { self.new.counts ≡ self.old.counts }
         ensures fires { fires (U.choice self.old.unit) self.old.program block self.old.state result self.new.state }
     {
+        self.facts();
         let j = self.unit.pick()?;
         let mask = self.core.masks(block)[j];
         self.told = self.told.without(mask);
@@ -292,6 +296,7 @@ impl<'a, U: BarrierUnit, T: Timing> Machine<'a, U, T> {
         ensures later { self.old.state.clock ≤ tick }
         ensures due { IsSome (first_from (λ p. is_due tick (processor self.new.state p).work) 0 self.new.program.machine.processors) }
     {
+        self.facts();
         self.clock = tick;
     }
 
@@ -307,6 +312,7 @@ impl<'a, U: BarrierUnit, T: Timing> Machine<'a, U, T> {
         ensures effect { self.new.state ≡ after self.old.program self.old.state Branch }
         ensures event { result ≡ Over self.old.state.clock }
     {
+        self.facts();
         self.stage = Stage::Over;
         Event::Ended { at: self.clock }
     }
@@ -361,6 +367,23 @@ impl<'a, U: BarrierUnit, T: Timing> Machine<'a, U, T> {
         }
     }
 
+    /// Where nothing else can be done within a block, its streams have ended, and the canonical run
+    /// leaves it.
+    fn leaves(&self, block: u32)
+        requires within { self.now.state.mode ≡ In block }
+        requires none_due { due_finish self.now.program self.now.state ≡ None }
+        requires none_fires { answer_at (U.choice self.now.unit) self.now.program block self.now.state ≡ None }
+        requires none_starts { first_from (can_start (code_at self.now.program block) self.now.state) 0 self.now.program.machine.processors ≡ None }
+        requires none_works { least_tick self.now.state.clock self.now.state.processors ≡ None }
+        ensures block { block < length self.now.program.blocks }
+        ensures may { May self.now.program self.now.state Branch }
+        ensures canonical { block_branch self.now.program (code_at self.now.program block) self.now.state ≡ Some Branch }
+    {
+        self.facts();
+        canonical_runs_are_runs();
+        let _clock = self.clock;
+    }
+
     /// Leaves a block where nothing else can be done, unless the next is entered past `until`.
     fn branch(&mut self, block: u32, until: u64) -> Event
         requires within { self.old.state.mode ≡ In block }
@@ -377,6 +400,7 @@ impl<'a, U: BarrierUnit, T: Timing> Machine<'a, U, T> {
         ensures canonical { block_branch self.old.program (code_at self.old.program block) self.old.state ≡ Some Branch }
         ensures branches { branches self.old.program block until self.old.state result self.new.state }
     {
+        self.leaves(block);
         match self.target(block) {
             None => self.halt(block),
             Some(_) if self.clock >= until => Event::Reached,
@@ -494,7 +518,7 @@ mod tests {
             })?;
             let mut lines = Vec::new(alloc);
             lines.push(spread(alloc, 6)?)?;
-            let core = Core::of(alloc, Spec::standard(), Blocks { names, blocks }, lines)?;
+            let core = Core::of(alloc, Spec::standard(), Blocks { names, blocks }, &lines)?;
             let unit = Sbm::new(alloc, core.most_masks())?;
             let mut machine = Machine::new(alloc, &core, store, unit, timing)?;
             let mut printed = 0;

@@ -5,6 +5,7 @@ ghost use Rattle.bm_base.specs.Machine.{IsTime};
 ghost use Rattle.bm_base.specs.Spec.{time_of};
 ghost use Rattle.unit_law.specs.State.{code_at};
 ghost use Rattle.unit_law.specs.Fit.{HasTimes};
+ghost use Rattle.unit_law.specs.Determinate.{IsDeterminate};
 ghost use Rattle.bm_machine.specs.Core.{IsCore};
 
 use crate::plan::Plan;
@@ -13,13 +14,13 @@ use line_model::{Line, StreamItem};
 use std::alloc::{AllocError, Global};
 use std::marker::Model;
 use tuple_ir::{Blocks, Next, Tuple};
+use unit_law::ordered_blocks_are_determinate;
 
 /// A machine's processors and times, and blocks with their lines.
 #[derive(Drop)]
 pub struct Core {
     spec: Spec,
     blocks: Blocks,
-    lines: Vec<Line>,
     plans: Vec<Plan>,
 }
 
@@ -31,9 +32,9 @@ impl Model for Core {
 
     ghost Value = { Program };
 
-    ghost view = { λ c. record { machine = c.spec; names = c.blocks.names; blocks = c.blocks.blocks; lines = map (λ l. l.items) c.lines.items } };
+    ghost view = { λ c. record { machine = c.spec; names = c.blocks.names; blocks = c.blocks.blocks; lines = map (λ l. l.line) c.plans.items } };
 
-    ghost invariant = { λ c. IsCore (record { machine = c.spec; names = c.blocks.names; blocks = c.blocks.blocks; lines = map (λ l. l.items) c.lines.items }) × (c.plans.items ≡ map (λ l. planned c.spec.processors l.items) c.lines.items) };
+    ghost invariant = { λ c. IsCore (record { machine = c.spec; names = c.blocks.names; blocks = c.blocks.blocks; lines = map (λ l. l.line) c.plans.items }) × (c.plans.items ≡ map (λ l. planned c.spec.processors l.line) c.plans.items) };
 }
 
 /// The times of a class are those of a machine.
@@ -44,25 +45,25 @@ fn is_time(spec: &Spec, class: Class)
 }
 
 impl Core {
-    /// The core of blocks with their lines, in order.
+    /// The core of blocks with their lines, in order; `cores_keep_each_block` says what it asks, block
+    /// by block. It keeps streams and queues of the lines, and not the lines.
     pub fn of(
         alloc: Global,
         spec: Spec,
         blocks: Blocks,
-        lines: Vec<Line>,
+        lines: &[Line],
     ) -> Result<Core, AllocError>
-        requires { IsCore (record { machine = spec; names = blocks.names; blocks = blocks.blocks; lines = map (λ l. l.items) lines.items }) }
-        ensures { IfOk result (λ core. core ≡ record { machine = spec; names = blocks.names; blocks = blocks.blocks; lines = map (λ l. l.items) lines.items }) }
+        requires { IsCore (record { machine = spec; names = blocks.names; blocks = blocks.blocks; lines = map (λ l. l.items) lines.now }) }
+        ensures { IfOk result (λ core. core ≡ record { machine = spec; names = blocks.names; blocks = blocks.blocks; lines = map (λ l. l.items) lines.now }) }
     {
         let mut plans = Vec::new(alloc);
         let processors = spec.processors();
-        for line in &lines {
+        for line in lines {
             plans.push(Plan::of(alloc, line, processors)?)?;
         }
         Ok(Core {
             spec,
             blocks,
-            lines,
             plans,
         })
     }
@@ -88,6 +89,16 @@ impl Core {
         is_time(spec, Class::Mul);
         is_time(spec, Class::Div);
         is_time(spec, Class::Print);
+    }
+
+    /// Every core is determinate: however long its instructions take within their intervals, and
+    /// whatever lawful answers a unit gives, its runs print the same and leave the same memory.
+    pub fn determinate(&self)
+        ensures { IsDeterminate self.now }
+    {
+        self.laws();
+        self.times();
+        ordered_blocks_are_determinate();
     }
 
     /// The processors and times.

@@ -8,4 +8,4 @@ pub loop-p-preserved : goal.loop-p-preserved
 loop-p-preserved c = rw (add-one) (ap (map (λ v. v.items)) c.in_ok-push.ensures.items ∙ map-append _ _ _ ∙ ap (λ l. l ++ c.in_ok-stream.field-0.items ∷ []) c.loop-p.invariant ∙ ap (λ s. streams_of c.loop-p.p c.args.line.now.items ++ s ∷ []) (c.in_ok-stream.ensures))
 
 pub returns : goal.returns
-returns c = let e : c.loop-p.p ≡ c.args.processors = omega (arith, c.loop-p-test.false, c.loop-p.auto.p-end) in rw (c.loop-p.invariant, c.in_ok-masks.ensures) (ap (λ n. record { streams = streams_of n c.args.line.now.items; queue = masks c.args.line.now.items }) e)
+returns c = let e : c.loop-p.p ≡ c.args.processors = omega (arith, c.loop-p-test.false, c.loop-p.auto.p-end) in rw (c.history_of.ensures, c.items.ensures, c.loop-p.invariant, c.in_ok-masks.ensures) (ap (λ n. record { line = c.args.line.now.items; streams = streams_of n c.args.line.now.items; queue = masks c.args.line.now.items }) e)

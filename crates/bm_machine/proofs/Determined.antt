@@ -1,8 +1,7 @@
--- A core's program is determinate.
+-- What the law of ordered blocks asks of a program, a core keeps.
 use Rattle.std.proofs.Common.{◌≡◌, ℕ, zero, suc, ◌<◌, ◌≤◌, List, [], ◌∷◌, length, Some, None, slice_get, refl, sym, ap, subst, arith, ◌⊎◌, inl, inr}
 use Rattle.std.proofs.lemmas.Bool.{cases_lt}
 use Rattle.std.proofs.lemmas.List.{get_or_past}
-use Rattle.bm_base.specs.Machine.{IsMachine}
 use Rattle.tuple_ir.specs.declared.tuple.Tuple.{Tuple}
 use Rattle.tuple_ir.specs.declared.block.Block.{Block}
 use Rattle.tuple_ir.specs.declared.block.Next.{Next}
@@ -11,15 +10,12 @@ use Rattle.tuple_ir.specs.Operands.{HasEarlyOperands}
 use Rattle.tuple_ir.specs.Serial.{block_at, no_block}
 use Rattle.unit_law.specs.State.{Program, code_at}
 use Rattle.unit_law.specs.Fit.{AllEarly, AllLead, leads_below}
-use Rattle.unit_law.specs.Determinate.{IsDeterminate}
 use Rattle.bm_machine.specs.Core.{IsCore, leads_rightly}
-use Rattle.unit_law.proofs.Ordering.{synced_determinate}
-use Rattle.bm_machine.proofs.MachineTimes.{times_of_machine}
 
-none_there : (m : Program) (b : ℕ) → length m.blocks ≤ b → block_at m.blocks b ≡ no_block
+pub none_there : (m : Program) (b : ℕ) → length m.blocks ≤ b → block_at m.blocks b ≡ no_block
 none_there m b le = get_or_past m.blocks b no_block le
 
-core_early : (m : Program) → IsCore m → AllEarly m
+pub core_early : (m : Program) → IsCore m → AllEarly m
 core_early m core b = go (cases_lt b (length m.blocks))
   where
     go : (b < length m.blocks) ⊎ (length m.blocks ≤ b) → HasEarlyOperands (code_at m b).tuples
@@ -31,12 +27,9 @@ led blocks tuples Halt h = tt
 led blocks tuples (Goto b) h = h
 led blocks tuples (If c one other) h = (h.1, h.2)
 
-core_leads : (m : Program) → IsCore m → AllLead m
+pub core_leads : (m : Program) → IsCore m → AllLead m
 core_leads m core = record { some = core.some; each = λ b. go b (cases_lt b (length m.blocks)) }
   where
     go : (b : ℕ) → (b < length m.blocks) ⊎ (length m.blocks ≤ b) → leads_below (length m.blocks) (code_at m b).next
     go b (inl lt) = led (length m.blocks) (code_at m b).tuples (code_at m b).next (core.sound b lt).next
     go b (inr le) = subst (λ x. leads_below (length m.blocks) x.next) (sym (none_there m b le)) tt
-
-pub core_determinate : (m : Program) → IsMachine m.machine.processors m.machine.times → IsCore m → IsDeterminate m
-core_determinate m machine core = synced_determinate m core.fit (times_of_machine m machine) (core_early m core) core.stand (core_leads m core) core.synced
