@@ -93,7 +93,7 @@ module _ (choice : Choice) (durations : Durations) (m : Program) (memory : List 
   not_ended past Ended s t a e = absurd (cc)
 
   -- from a block's entry the clock goes on
-  enters_later : (mode : Mode) (b : ℕ) → mode ≡ Entering b → (past : List Action) (s : State) (a : Action) → next_to choice durations m mode past s ≡ Some a → (after_to m mode s a).clock ≡ s.clock + 1
+  pub enters_later : (mode : Mode) (b : ℕ) → mode ≡ Entering b → (past : List Action) (s : State) (a : Action) → next_to choice durations m mode past s ≡ Some a → (after_to m mode s a).clock ≡ s.clock + 1
   enters_later (In c) b e past s a h = absurd (cc)
   enters_later (Entering c) b e past s a h = refl
   enters_later Ended b e past s a h = absurd (cc)
