@@ -56,6 +56,14 @@ pub fn conflicts(alloc: Global, block: &Block) -> Result<Deps, AllocError>
 }
 
 impl Deps {
+    /// The number of tuples of the block, at most 128.
+    pub fn len(&self) -> usize
+        ensures value { result ≡ length self.now }
+        ensures few { result ≤ 128 }
+    {
+        self.rows.len()
+    }
+
     /// The producers of tuple `i` of the block, ascending.
     pub fn producers(&self, i: u8) -> &[u8]
         requires { i < length self.now }

@@ -61,7 +61,7 @@ fn has_producers(
             return Ok(false);
         }
     }
-    Ok(deps.pairs() == pairs)
+    Ok(deps.len() == tuples.len() && deps.pairs() == pairs)
 }
 
 #[test]

@@ -28,6 +28,10 @@ pub record Made (machine : Machine) (ts : List Tuple) (times : List ℕ) (deps :
   pub sound : (p : ℕ) → 1 ≤ p → IsJob (job_with p times deps)
   pub job : job_with machine.processors times deps ≡ job_of machine ts
 
+-- a block has as many tuples as there are lists of its producers
+pub few_tuples : (ts : List Tuple) (deps : List (List ℕ)) → deps ≡ producers_of ts → length deps ≤ 128 → length ts ≤ 128
+few_tuples ts deps is few = let many : length deps ≡ length ts = ap length is ∙ as_many ts in omega arith
+
 low_or_high : (r s : ℕ) → (r < s) ⊎ (s ≤ r)
 low_or_high r s = grind arith
 

@@ -14,23 +14,24 @@ use dependence::Deps;
 use std::alloc::{AllocError, Global};
 use tuple_ir::Block;
 
-/// The greedy schedule of a block of at most 128 tuples with these conflicts, where each tuple takes
-/// its greatest time. The bound is Graham's (R. L. Graham, Bounds on multiprocessing timing
-/// anomalies, SIAM J. Appl. Math. 17, 1969). It fails only where memory runs out.
+/// The greedy schedule of a block with these conflicts, where each tuple takes its greatest time.
+/// The bound is Graham's (R. L. Graham, Bounds on multiprocessing timing anomalies, SIAM J. Appl.
+/// Math. 17, 1969). It fails only where memory runs out.
 pub fn schedule(
     alloc: Global,
     block: &Block,
     deps: &Deps,
     spec: &Spec,
 ) -> Result<Schedule, AllocError>
-    requires few { length block.now.tuples ≤ 128 }
-    requires deps { deps.now ≡ producers_of block.now.tuples }
+    requires { deps.now ≡ producers_of block.now.tuples }
     ensures greedy { IfOk result (λ s. IsGreedy (job_of spec.now block.now.tuples) s.plan) }
     ensures makespan { IfOk result (λ s. s.makespan ≡ makespan (job_of spec.now block.now.tuples) s.plan) }
     ensures work { IfOk result (λ s. s.work ≡ work (job_of spec.now block.now.tuples)) }
     ensures longest { IfOk result (λ s. s.longest ≡ longest (job_of spec.now block.now.tuples)) }
     ensures bound { IfOk result (λ s. spec.now.processors * s.makespan ≤ s.work + (spec.now.processors - 1) * s.longest) }
 {
+    // Conflicts are those of at most 128 tuples.
+    prove!(deps.len() <= 128);
     let all_times = greatest_times(alloc, block.tuples.items(), spec)?;
     let times: &[u32] = &all_times;
     let all_heights = heights(alloc, times, deps)?;

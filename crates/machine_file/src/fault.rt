@@ -45,6 +45,13 @@ impl KeyName {
         &self.bytes
     }
 
+    /// The bytes in order, as the vector that held them. It takes no memory.
+    pub fn into_bytes(self) -> Vec<u8>
+        ensures { result.items ≡ self }
+    {
+        self.bytes
+    }
+
     /// The bytes of two texts, one behind the other.
     pub(crate) fn joined(alloc: Global, front: &str, back: &str) -> Result<KeyName, AllocError>
         ensures { IfOk result (λ name. name ≡ front.now ++ back.now) }

@@ -150,5 +150,6 @@ fn a_key_is_put_together(rt: HostRuntime) -> Result<(), Fail> {
     let mut name = KeyName::new(rt.alloc());
     name.push(b'a')?;
     assert_eq!(rt; name.items(), b"a".as_slice());
+    assert_eq!(rt; name.into_bytes().as_slice(), b"a".as_slice());
     Ok(())
 }

@@ -6,12 +6,26 @@ use Rattle.list_schedule.specs.Job.{AreTimes, greatest, height, longest, work, j
 use Rattle.list_schedule.specs.Greedy.{makespan}
 use Rattle.list_schedule.specs.Steps.{job_with, plan_with}
 use Rattle.list_schedule.proofs.Graham.{grahams_bound}
-use Rattle.list_schedule.proofs.Whole.{Made, made_for, heights_many, height_at, written, greedy_for, is_job, bounded}
+use Rattle.list_schedule.proofs.Whole.{Made, made_for, few_tuples, heights_many, height_at, written, greedy_for, is_job, bounded}
 use Rattle.list_schedule.proofs.greedy.schedule.Goals as goal
 use Rattle.list_schedule.proofs.greedy.schedule.Goals.{After-deref-times, After-deref_mut-2, After-drop-all_times-2}
 
 made : (c : After-deref-times) → Made c.args.spec.now c.args.block.now.tuples c.deref-times.result.now c.args.deps.now
-made c = let P : List ℕ → Type 0 = AreTimes in made_for _ _ _ _ c.requires.few (c.deref-times.ensures.value ∙ c.in_ok-all_times.ensures.value ∙ ap (map (λ t. (time_of c.args.spec.now (class_of t)).most)) c.items.ensures) (subst P (sym c.deref-times.ensures.value) c.in_ok-all_times.ensures.range) c.requires.deps
+made c =
+    let P : List ℕ → Type 0 = AreTimes in
+    made_for _ _ _ _ (few_tuples c.args.block.now.tuples c.args.deps.now c.requires (omega (arith, c.len.ensures.few, c.len.ensures.value))) (c.deref-times.ensures.value ∙ c.in_ok-all_times.ensures.value ∙ ap (map (λ t. (time_of c.args.spec.now (class_of t)).most)) c.items.ensures) (subst P (sym c.deref-times.ensures.value) c.in_ok-all_times.ensures.range) c.requires
+
+pub heights-requires-clause-few : goal.heights-requires-clause-few
+heights-requires-clause-few c = let m = made c in m.few
+
+pub place_all-requires-clause-few : goal.place_all-requires-clause-few
+place_all-requires-clause-few c = let m = made ((goal.at.place_all-requires-clause-few c).After-deref-times) in m.few
+
+pub last_of-makespan-requires-clause-few : goal.last_of-makespan-requires-clause-few
+last_of-makespan-requires-clause-few c = let m = made ((goal.at.last_of-makespan-requires-clause-few c).After-deref-times) in m.few
+
+pub sum_of-work-requires-clause-few : goal.sum_of-work-requires-clause-few
+sum_of-work-requires-clause-few c = let m = made ((goal.at.sum_of-work-requires-clause-few c).After-deref-times) in m.few
 
 pub heights-requires-clause-same : goal.heights-requires-clause-same
 heights-requires-clause-same c = let m = made c in m.same
