@@ -10,14 +10,14 @@ use Rattle.unit_law.specs.State.{Code, Program, Mode, In, Entering, Ended, State
 use Rattle.unit_law.specs.Units.{Choice, first_from}
 use Rattle.unit_law.specs.Steps.{Action, Finish, Fire, Start, Branch, Advance, Enter, May, may_to, after, after_to, after_in, target, least_tick, or_clock}
 use Rattle.unit_law.specs.OnUnit.{answer_at}
-use Rattle.unit_law.specs.Canonical.{Durations, numbered, time_for, next_to}
+use Rattle.unit_law.specs.Canonical.{Durations, due_finish, numbered, time_for, next_to}
 use Rattle.unit_law.proofs.Ordered.{started_mode}
 use Rattle.unit_law.proofs.Meets.{started_clock}
 use Rattle.bm_machine.specs.Shown.{HasCounts}
 use Rattle.bm_machine.specs.Next.{IsNextAction, counts_after, Takes, StandsFor, Gives, tells, is_at, printed_by, clock_then, event_clock, is_last, goes_on, left_in, still}
 use Rattle.bm_machine.specs.Moves.{Starts, Finishes, finish_event, fires, branches, Answers}
 use Rattle.unit_law.proofs.ReadyFacts.{first_passes}
-use Rattle.bm_machine.proofs.Nexts.{finish_next}
+use Rattle.bm_machine.proofs.Nexts.{finish_next, fire_next}
 use Rattle.bm_machine.proofs.Falls.{advance_still, enters}
 
 -- an event with which the run goes on is neither of the other two
@@ -179,6 +179,15 @@ module _ (choice : Choice) (durations : Durations) (m : Program) (counts : List 
     fire_answers at j mask counts' s' f next c early =
         let clock = ap (λ t. t.clock) (does (Fire j)) in
         one (Fired at j mask) counts' s' (Fire j) clock (ap (λ t. t.mode) (does (Fire j)) ∙ inside) f.4 c refl f.3 (λ past h. next past) refl f.2 (f.0 ∙ sym (ap (λ t. t.clock) f.4 ∙ clock)) (ap (λ t. t.world.output) f.4 ∙ ap (λ t. t.world.output) (does (Fire j)) ∙ sym (append-nil s.world.output)) early f.5
+
+    pub fired_answers : (event : Event) (counts' : List ℕ) (s' : State) → fires choice m b s (Some event) s' → due_finish m s ≡ None → counts' ≡ counts → s.clock ≤ until → Answers choice durations m counts s until event counts' s'
+    fired_answers (Fired at j mask) counts' s' f due c early = fire_answers at j mask counts' s' f (λ past. fire_next choice durations m s b inside past due j f.1) c early
+    fired_answers (Started at p t d) counts' s' f due c early = absurd f
+    fired_answers (Finished at p t v) counts' s' f due c early = absurd f
+    fired_answers (Printed at p t v) counts' s' f due c early = absurd f
+    fired_answers (Entered at to) counts' s' f due c early = absurd f
+    fired_answers (Over at) counts' s' f due c early = absurd f
+    fired_answers Reached counts' s' f due c early = absurd f
 
     -- the Advance before a Finish
     module _ (tick : ℕ) (least : least_tick s.clock s.processors ≡ Some tick) where
