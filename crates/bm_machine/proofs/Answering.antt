@@ -152,12 +152,12 @@ module _ (choice : Choice) (durations : Durations) (m : Program) (counts : List 
     finish_answers p event counts' s' f due next c early left =
         let clock = ap (λ t. t.clock) (does (Finish p)) in
         one event counts' s' (Finish p) clock (ap (λ t. t.mode) (does (Finish p)) ∙ inside) f.effect c
-          (ap goes_on f.event_is ∙ goes_finish f.print s.clock p f.tuple f.value)
-          (subst (λ mode. may_to m mode s (Finish p)) (sym inside) due) (λ past h. next past)
-          (subst (λ e. StandsFor e (Finish p ∷ [])) (sym f.event_is) (stands_finish f.print s.clock p f.tuple f.value (Finish p ∷ []) (inl refl)))
-          (subst (tells (code_at m b) s) (sym f.event_is) (told_finish (code_at m b) s f.print s.clock p f.tuple f.value f.gives))
-          (subst (λ e. is_at e s') (sym f.event_is) (at_finish f.print s.clock p f.tuple f.value s' (sym (ap (λ t. t.clock) f.effect ∙ clock))))
-          f.output early left
+        (ap goes_on f.event_is ∙ goes_finish f.print s.clock p f.tuple f.value)
+        (subst (λ mode. may_to m mode s (Finish p)) (sym inside) due) (λ past h. next past)
+        (subst (λ e. StandsFor e (Finish p ∷ [])) (sym f.event_is) (stands_finish f.print s.clock p f.tuple f.value (Finish p ∷ []) (inl refl)))
+        (subst (tells (code_at m b) s) (sym f.event_is) (told_finish (code_at m b) s f.print s.clock p f.tuple f.value f.gives))
+        (subst (λ e. is_at e s') (sym f.event_is) (at_finish f.print s.clock p f.tuple f.value s' (sym (ap (λ t. t.clock) f.effect ∙ clock))))
+        f.output early left
 
     pub start_answers : (p : ℕ) (event : Event) (counts' : List ℕ) (s' : State) → (st : Starts durations m b p counts s event counts' s') → ((past : List Action) → HasCounts counts past → next_to choice durations m s.mode past s ≡ Some (Start p st.time)) → s.clock ≤ until → left_in m s' s'.mode < left_in m s s.mode → Answers choice durations m counts s until event counts' s'
     start_answers p event counts' s' st next early left =
@@ -165,10 +165,10 @@ module _ (choice : Choice) (durations : Durations) (m : Program) (counts : List 
         let mode = ap (λ t. t.mode) (does (Start p st.time)) ∙ started_mode (code_at m b) s p st.time (next_item (code_at m b) s p) ∙ inside in
         let world : (after m s (Start p st.time)).world.output ≡ s.world.output = ap (λ t. t.world.output) (does (Start p st.time)) ∙ started_output (next_item (code_at m b) s p) st.time p in
         one event counts' s' (Start p st.time) clock mode st.effect st.counted (ap goes_on st.event_is) st.may next
-          (subst (λ e. StandsFor e (Start p st.time ∷ [])) (sym st.event_is) refl)
-          (subst (tells (code_at m b) s) (sym st.event_is) st.item)
-          (subst (λ e. is_at e s') (sym st.event_is) (sym (ap (λ t. t.clock) st.effect ∙ clock)))
-          (ap (λ t. t.world.output) st.effect ∙ world ∙ sym (append-nil s.world.output) ∙ ap (λ e. s.world.output ++ printed_by e) (sym st.event_is)) early left
+        (subst (λ e. StandsFor e (Start p st.time ∷ [])) (sym st.event_is) refl)
+        (subst (tells (code_at m b) s) (sym st.event_is) st.item)
+        (subst (λ e. is_at e s') (sym st.event_is) (sym (ap (λ t. t.clock) st.effect ∙ clock)))
+        (ap (λ t. t.world.output) st.effect ∙ world ∙ sym (append-nil s.world.output) ∙ ap (λ e. s.world.output ++ printed_by e) (sym st.event_is)) early left
       where
         started_output : (o : Option Rattle.line_model.specs.declared.line.StreamItem.StreamItem) (d p : ℕ) → (Rattle.unit_law.specs.Steps.started (code_at m b) s p d o).world.output ≡ s.world.output
         started_output None d p = refl
@@ -209,11 +209,11 @@ module _ (choice : Choice) (durations : Durations) (m : Program) (counts : List 
           let waits = advance_still m b s inside until tick long least later in
           let g = f.gives in
           going event counts' s' Advance (ap goes_on f.event_is ∙ goes_finish f.print (after m s Advance).clock p f.tuple f.value) (λ past h. next past) (omega (arith, advance_clock)) (no_end b (after m s Advance) mode)
-            (Advance ∷ Finish p ∷ [], subst (λ e. StandsFor e (Advance ∷ Finish p ∷ [])) (sym f.event_is) (stands_finish f.print (after m s Advance).clock p f.tuple f.value (Advance ∷ Finish p ∷ []) (inr refl)), (record { may = may; canonical = λ past h. next past }, (record { may = then; canonical = λ past h. may_then past }, (c, f.effect))))
-            (told_in b event inside (subst (tells (code_at m b) s) (sym f.event_is) (told_finish (code_at m b) s f.print (after m s Advance).clock p f.tuple f.value (record { tuple = g.tuple; is_tuple = g.is_tuple; until = g.until; first = g.first; second = g.second; works = ap (λ x. (processor x p).work) (sym advance_is) ∙ g.works; value_is = g.value_is; prints = g.prints }))))
-            (subst (λ e. is_at e s') (sym f.event_is) (at_finish f.print (after m s Advance).clock p f.tuple f.value s' (clock ∙ sym now)))
-            (f.output ∙ ap (λ x. x.world.output ++ printed_by event) advance_is)
-            (omega arith) (omega arith)
+          (Advance ∷ Finish p ∷ [], subst (λ e. StandsFor e (Advance ∷ Finish p ∷ [])) (sym f.event_is) (stands_finish f.print (after m s Advance).clock p f.tuple f.value (Advance ∷ Finish p ∷ []) (inr refl)), (record { may = may; canonical = λ past h. next past }, (record { may = then; canonical = λ past h. may_then past }, (c, f.effect))))
+          (told_in b event inside (subst (tells (code_at m b) s) (sym f.event_is) (told_finish (code_at m b) s f.print (after m s Advance).clock p f.tuple f.value (record { tuple = g.tuple; is_tuple = g.is_tuple; until = g.until; first = g.first; second = g.second; works = ap (λ x. (processor x p).work) (sym advance_is) ∙ g.works; value_is = g.value_is; prints = g.prints }))))
+          (subst (λ e. is_at e s') (sym f.event_is) (at_finish f.print (after m s Advance).clock p f.tuple f.value s' (clock ∙ sym now)))
+          (f.output ∙ ap (λ x. x.world.output ++ printed_by event) advance_is)
+          (omega arith) (omega arith)
 
       pub waiting_answers : (p : ℕ) (event : Event) (counts' : List ℕ) (s' : State) (m1 m2 : Program) (s1 : State) → m1 ≡ m → m2 ≡ m → s1 ≡ after m s Advance → length s.processors ≡ m.machine.processors → May m s Advance → ((past : List Action) → next_to choice durations m s.mode past s ≡ Some Advance) → first_from (λ p. is_due s1.clock (processor s1 p).work) 0 m1.machine.processors ≡ Some p → Finishes m1 b p s1 event s' → left_in m2 s' s'.mode < left_in m1 s1 s1.mode → counts' ≡ counts → s.clock ≤ tick → tick ≤ until → Answers choice durations m counts s until event counts' s'
       waiting_answers p event counts' s' m1 m2 s1 em1 em2 es long may next first f left c later early =
@@ -252,8 +252,8 @@ module _ (choice : Choice) (durations : Durations) (m : Program) (counts : List 
           let is = e ∙ enters m b s inside c (leads (Entering c) to) in
           let now : s'.clock ≡ s.clock + 1 = ap (λ t. t.clock) is in
           going (Entered (s.clock + 1) c) counts' s' Branch refl (λ past h. next past) (omega (arith, branch_clock (Entering c) to)) (λ x. let y : Entering c ≡ Ended = sym (leads (Entering c) to) ∙ x in cc)
-            (Branch ∷ Enter ∷ [], refl, (record { may = may; canonical = λ past h. next past }, (record { may = subst (λ o. may_to m o (after m s Branch) Enter) (sym (leads (Entering c) to)) tt; canonical = λ past h. ap (λ o. next_to choice durations m o past (after m s Branch)) (leads (Entering c) to) }, (same, e))))
-            (λ block e. tt) (sym now, ap (λ t. t.mode) is) (ap (λ t. t.world.output) is ∙ sym (append-nil s.world.output)) (omega arith) (omega arith)
+          (Branch ∷ Enter ∷ [], refl, (record { may = may; canonical = λ past h. next past }, (record { may = subst (λ o. may_to m o (after m s Branch) Enter) (sym (leads (Entering c) to)) tt; canonical = λ past h. ap (λ o. next_to choice durations m o past (after m s Branch)) (leads (Entering c) to) }, (same, e))))
+          (λ block e. tt) (sym now, ap (λ t. t.mode) is) (ap (λ t. t.world.output) is ∙ sym (append-nil s.world.output)) (omega arith) (omega arith)
 
       pub branch_answers : (event : Event) (counts' : List ℕ) (s' : State) → branches m b until s event s' → counts' ≡ counts → Answers choice durations m counts s until event counts' s'
       branch_answers (Over at) counts' s' h c = subst (λ x. Answers choice durations m counts s until (Over x) counts' s') (sym h.0) (halts counts' s' h.1 h.2 c)

@@ -94,4 +94,3 @@ gone_on g c =
     let w = c.fire.new.self in
     let h = subst (λ o. fires (g.U.BarrierUnit.choice v.unit) v.program c.in-Some.block v.state o w.state) c.in_default-fire.is c.fire.ensures.fires in
     answers_same (g.U.BarrierUnit.choice v.unit) (g.U.BarrierUnit.choice w.unit) (g.T.Timing.duration v.timing) (g.T.Timing.duration w.timing) v.program w.program v.counts w.counts v.state w.state c.args.until c.go_on.result c.go_on.new.self.counts c.go_on.new.self.state c.fire.ensures.choice (ap g.T.Timing.duration c.fire.ensures.timing) c.fire.ensures.program c.fire.ensures.counts h.1 c.go_on.ensures.answers
-
