@@ -1,10 +1,10 @@
 -- Who waits, and of whom the unit has been told.
-use Rattle.std.proofs.Common.{◌≡◌, ℕ, zero, suc, ◌+◌, ◌<◌, ◌≤◌, Bool, true, false, ◌&&◌, ◌||◌, nat_eq, nat_lt, List, length, map, get_or, slice_get, refl, sym, ap, ◌∙◌, arith, ◌⊎◌, inl, inr}
-use Rattle.std.proofs.lemmas.Bool.{cases_lt, cases_Bool, both_ways, lt-ltb, le-ltb, false_from_ne_true}
+use Rattle.std.proofs.Common.{◌≡◌, ℕ, ◌+◌, ◌<◌, ◌≤◌, Bool, true, false, ◌&&◌, ◌||◌, nat_eq, List, length, map, get_or, slice_get, refl, sym, ap, ◌∙◌, arith, ◌⊎◌, inl, inr}
+use Rattle.std.proofs.lemmas.Bool.{cases_lt, both_ways, lt-ltb, le-ltb, false_from_ne_true}
 use Rattle.std.proofs.lemmas.Bool.Decides.{eqb_tells}
 use Rattle.std.proofs.lemmas.List.{get_or-map, length-map}
 use Rattle.line_model.specs.Streams.{stream}
-use Rattle.unit_law.specs.State.{Code, State, Processor, at_start, is_free, is_wait, waits}
+use Rattle.unit_law.specs.State.{Code, Processor, at_start, is_free, is_wait, waits}
 use Rattle.bm_machine.specs.declared.actor.Actor.{Actor}
 use Rattle.bm_machine.specs.Shown.{work_of, processor_of, standing}
 

@@ -1,11 +1,10 @@
 -- How a machine begins.
-use Rattle.std.proofs.Common.{◌≡◌, ℕ, zero, suc, ◌+◌, ◌<◌, ◌≤◌, Bool, true, false, List, [], ◌∷◌, length, map, replicate, get_or, slice_get, Option, Some, None, ℤ, pos, refl, sym, ap, ◌∙◌, arith, ◌⊎◌, inl, inr, not, ◌&&◌, ◌||◌, nat_lt}
+use Rattle.std.proofs.Common.{◌≡◌, ℕ, zero, suc, ◌<◌, ◌≤◌, Bool, true, false, List, [], ◌∷◌, length, map, replicate, get_or, slice_get, Option, Some, None, ℤ, pos, refl, sym, ap, ◌∙◌, arith, ◌⊎◌, inl, inr, not, ◌&&◌, ◌||◌, nat_lt}
 use Rattle.std.proofs.lemmas.Bool.{cases_lt, and_parts, both_ways}
-use Rattle.std.proofs.lemmas.List.{get_or-replicate, get_or_past, length-replicate, get_or-map, length-map}
+use Rattle.std.proofs.lemmas.List.{get_or-replicate, get_or_past, length-replicate}
 use Rattle.bm_base.specs.Mask.{has_bit}
 use Rattle.bm_base.specs.Memory.{Content}
 use Rattle.bm_base.proofs.MaskBits.{same_bits}
-use Rattle.tuple_ir.specs.World.{World}
 use Rattle.line_model.specs.declared.line.StreamItem.{StreamItem}
 use Rattle.line_model.specs.declared.line.StreamItem.TheVariants.{Do, Wait}
 use Rattle.line_model.specs.Streams.{stream, masks}
@@ -15,7 +14,7 @@ use Rattle.unit_law.specs.Units.{has_unfired}
 use Rattle.unit_law.proofs.Waiting.{waiting_has}
 use Rattle.bm_machine.specs.declared.actor.Actor.{Actor}
 use Rattle.bm_machine.specs.declared.actor.Task.TheVariants.{Rest}
-use Rattle.bm_machine.specs.Shown.{work_of, processor_of, standing}
+use Rattle.bm_machine.specs.Shown.{processor_of, standing}
 
 abbrev pub resting : Actor
 resting = record { place = 0; task = Rest }

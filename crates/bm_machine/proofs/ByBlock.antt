@@ -5,8 +5,6 @@ use Rattle.std.proofs.lemmas.List.{get_or_past}
 use Rattle.line_model.specs.Streams.{masks}
 use Rattle.tuple_ir.specs.Conflict.{Conflict}
 use Rattle.tuple_ir.specs.Serial.{no_block}
-use Rattle.tuple_ir.specs.declared.block.Block.{Block}
-use Rattle.line_model.specs.declared.line.Item.{Item}
 use Rattle.line_model.specs.Order.{StandsAt, IsOrderedBySync}
 use Rattle.unit_law.specs.State.{Code, Program, code_at}
 use Rattle.unit_law.specs.Fit.{IsFit}

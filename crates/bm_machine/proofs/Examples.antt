@@ -1,5 +1,5 @@
 -- The worked programs are those of cores.
-use Rattle.std.proofs.Common.{◌≡◌, ℕ, zero, suc, ◌<◌, ◌≤◌, length, refl, arith}
+use Rattle.std.proofs.Common.{ℕ, zero, suc, ◌<◌, ◌≤◌, refl, arith}
 use Rattle.unit_law.specs.State.{code_at}
 use Rattle.bm_machine.specs.Core.{IsCore, IsLined}
 use Rattle.bm_machine.specs.Examples.{sum_program, falling_program}

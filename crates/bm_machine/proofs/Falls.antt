@@ -1,21 +1,20 @@
 -- What is left of a block falls with each step, and is small at its entry.
-use Rattle.std.proofs.Common.{◌≡◌, ℕ, zero, suc, ◌+◌, ◌-◌, ◌*◌, ◌<◌, ◌≤◌, Bool, true, false, not, List, [], ◌∷◌, length, map, get_or, set, count_by, drop, slice_get, Option, Some, None, refl, sym, ap, ◌∙◌, subst, le_refl, arith, ◌⊎◌, inl, inr, ℤ, if◌then◌else◌}
+use Rattle.std.proofs.Common.{◌≡◌, ℕ, zero, suc, ◌+◌, ◌*◌, ◌<◌, ◌≤◌, Bool, true, false, not, List, [], ◌∷◌, length, get_or, set, count_by, drop, slice_get, Some, refl, sym, ap, ◌∙◌, subst, le_refl, arith, ℤ, if◌then◌else◌}
 use Rattle.std.proofs.lemmas.Bool.{cond-true}
 use Rattle.std.proofs.lemmas.List.{length-map}
 use Rattle.std.proofs.lemmas.List.Sums.{count_by-le-length}
 use Rattle.std.proofs.lemmas.Option.{slice_get_within, get_or_from_slice_get}
 use Rattle.bm_base.specs.Mask.{has_bit}
 use Rattle.tuple_ir.specs.World.{World}
-use Rattle.line_model.specs.declared.line.StreamItem.{StreamItem}
 use Rattle.line_model.specs.declared.line.StreamItem.TheVariants.{Do, Wait}
 use Rattle.line_model.specs.Streams.{stream, masks}
-use Rattle.unit_law.specs.State.{Code, Program, Mode, In, Entering, Ended, Work, Idle, Busy, Processor, State, at_start, code_at, entered, processor, is_free, is_due, waits}
+use Rattle.unit_law.specs.State.{Code, Program, In, Entering, Work, Idle, Busy, Processor, State, at_start, code_at, entered, processor, is_free, is_due, waits}
 use Rattle.unit_law.specs.Units.{IsReady}
 use Rattle.unit_law.specs.Steps.{Action, Finish, Fire, Start, Branch, Advance, Enter, IsNext, freed, begun, resumed, passed, started, with_processor, read_of, tuple_at, least_tick, or_clock, after_in, after_to, after}
 use Rattle.unit_law.specs.Fit.{IsFit}
 use Rattle.unit_law.specs.Determinate.{sum_below}
 use Rattle.unit_law.proofs.Sums.{sum_le, sum_falls}
-use Rattle.unit_law.proofs.Inside.{IsWorkAt, set_all, due_within, work_due, waits_parts, wait_item, fired_all}
+use Rattle.unit_law.proofs.Inside.{IsWorkAt, set_all, due_within, waits_parts, wait_item, fired_all}
 use Rattle.unit_law.proofs.Ordered.{entered_at, started_mode}
 use Rattle.unit_law.proofs.Meets.{started_clock}
 use Rattle.bm_machine.specs.Core.{IsCore}

@@ -1,5 +1,5 @@
 -- What a Finish leaves of what a machine keeps.
-use Rattle.std.proofs.Common.{◌≡◌, ℕ, zero, suc, ◌+◌, ◌<◌, ◌≤◌, Bool, true, false, List, [], ◌∷◌, ◌++◌, length, take, get_or, set, slice_get, Option, Some, None, ℤ, nat_eq, refl, sym, ap, ◌∙◌, subst, arith, ◌⊎◌, inl, inr, get_or-set_same, length-set, map, cond}
+use Rattle.std.proofs.Common.{◌≡◌, ℕ, ◌<◌, ◌≤◌, true, false, List, [], ◌∷◌, ◌++◌, length, take, get_or, set, Option, Some, None, ℤ, nat_eq, refl, sym, ap, ◌∙◌, subst, arith, ◌⊎◌, inl, inr, map}
 use Rattle.std.proofs.lemmas.Bool.{cases_eq, both_ways}
 use Rattle.std.proofs.lemmas.Bool.Decides.{eqb_tells}
 use Rattle.std.proofs.lemmas.List.{length-map, map-set}
@@ -12,9 +12,9 @@ use Rattle.tuple_ir.specs.declared.event.Event.{Event}
 use Rattle.tuple_ir.specs.World.{World, write}
 use Rattle.tuple_ir.proofs.WorldFacts.{write_shape}
 use Rattle.line_model.specs.Streams.{masks}
-use Rattle.unit_law.specs.State.{Code, Program, Mode, In, State, Processor, Work, Idle, Busy, at_start, code_at, processor, is_free, is_due, waits, waiting_mask}
+use Rattle.unit_law.specs.State.{Code, Program, In, State, Work, Idle, Busy, at_start, code_at, processor, is_free, is_due, waits, waiting_mask}
 use Rattle.unit_law.specs.Units.{has_unfired}
-use Rattle.unit_law.specs.Steps.{Action, Finish, May, may_to, after, after_to, after_in, freed, finished, written, tuple_at}
+use Rattle.unit_law.specs.Steps.{Finish, May, may_to, after, after_to, after_in, freed, finished, written, tuple_at}
 use Rattle.unit_law.proofs.Inside.{set_all, due_within, waits_parts}
 use Rattle.unit_law.proofs.Waiting.{waiting_has}
 use Rattle.bm_machine.specs.declared.actor.Actor.{Actor}
@@ -22,7 +22,7 @@ use Rattle.bm_machine.specs.declared.actor.Task.TheVariants.{Rest, Runs}
 use Rattle.bm_machine.specs.Core.{IsCore}
 use Rattle.bm_machine.specs.Work.{names_hold, arity, value_of, printed}
 use Rattle.bm_machine.specs.Shown.{IsKept, IsReached, HasKinds, works_rightly, all_work_rightly, unit_agrees, processor_of, work_of}
-use Rattle.bm_machine.specs.Next.{Gives, is_print, printed_by}
+use Rattle.bm_machine.specs.Next.{is_print, printed_by}
 use Rattle.bm_machine.specs.Moves.{Finishes, finish_event}
 use Rattle.bm_machine.proofs.Goes.{reached_other}
 use Rattle.bm_machine.proofs.KindsKept.{write_kinds}

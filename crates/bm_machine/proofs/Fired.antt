@@ -1,27 +1,25 @@
 -- What a Fire leaves of what a machine keeps.
-use Rattle.std.proofs.Common.{◌≡◌, ℕ, zero, suc, ◌+◌, ◌<◌, ◌≤◌, Bool, true, false, not, ◌&&◌, List, [], ◌∷◌, length, get_or, set, slice_get, map, Option, Some, None, nat_lt, refl, sym, ap, ◌∙◌, subst, arith}
+use Rattle.std.proofs.Common.{◌≡◌, ℕ, ◌<◌, ◌≤◌, Bool, true, not, ◌&&◌, List, length, get_or, set, slice_get, Option, Some, nat_lt, refl, sym, ap, ◌∙◌, subst, arith}
 use Rattle.std.proofs.lemmas.Bool.{both_ways, and_parts, not-true}
 use Rattle.std.proofs.lemmas.Option.{slice_get_within, get_or_from_slice_get, slice_get-get_or}
-use Rattle.std.proofs.lemmas.List.{length-map}
 use Rattle.bm_base.specs.Mask.{has_bit}
 use Rattle.bm_base.proofs.MaskBits.{same_bits}
 use Rattle.line_model.specs.declared.line.StreamItem.TheVariants.{Wait}
 use Rattle.line_model.specs.Streams.{stream, masks}
-use Rattle.unit_law.specs.State.{Code, Program, Mode, In, State, Processor, Work, Idle, Busy, at_start, code_at, processor, is_free, is_wait, next_item, waits, waiting_mask}
+use Rattle.unit_law.specs.State.{Code, Program, In, State, Processor, Work, Idle, Busy, at_start, code_at, processor, is_free, is_wait, waits, waiting_mask}
 use Rattle.unit_law.specs.Units.{Choice, IsReady, has_unfired}
 use Rattle.unit_law.specs.OnUnit.{answer_at}
-use Rattle.unit_law.specs.Steps.{Action, Fire, NoneDue, May, may_to, after, after_to, after_in, passed, resumed}
+use Rattle.unit_law.specs.Steps.{Fire, NoneDue, May, may_to, after, after_to, after_in, passed}
 use Rattle.unit_law.proofs.Inside.{waits_parts, wait_item, passed_not, fired_all}
 use Rattle.unit_law.proofs.Kept.{length-passed}
 use Rattle.unit_law.proofs.Waiting.{waiting_has}
-use Rattle.bm_machine.specs.declared.actor.Actor.{Actor}
 use Rattle.bm_machine.specs.Core.{IsCore}
-use Rattle.bm_machine.specs.Shown.{IsKept, IsReached, works_rightly, all_work_rightly, unit_agrees, processor_of}
+use Rattle.bm_machine.specs.Shown.{IsKept, IsReached, works_rightly, all_work_rightly, unit_agrees}
 use Rattle.bm_machine.specs.Next.{left_in}
 use Rattle.bm_machine.proofs.Goes.{reached_other}
 use Rattle.bm_machine.proofs.LineCounts.{few_items}
 use Rattle.bm_machine.proofs.Falls.{fire_less}
-use Rattle.bm_machine.proofs.WithinBlock.{actor_at, reached_inside, reached_unfired, kept_work, kept_agrees, kept_told}
+use Rattle.bm_machine.proofs.WithinBlock.{reached_inside, reached_unfired, kept_work, kept_agrees, kept_told}
 
 free_count : (code : Code) (clock count : ℕ) (w : Work) → is_free clock w ≡ true → works_rightly code clock count w → count ≤ clock
 free_count code clock count Idle free h = h

@@ -1,19 +1,17 @@
 -- What a machine keeps, over an action that changes neither its processors' places nor its unit.
-use Rattle.std.proofs.Common.{◌≡◌, ℕ, zero, suc, ◌+◌, ◌<◌, ◌≤◌, Bool, true, false, ◌&&◌, nat_lt, List, [], ◌∷◌, length, get_or, slice_get, Option, Some, None, ℤ, IsSome, nat_eq, if◌then◌else◌, refl, sym, ap, ◌∙◌, subst, arith, ◌⊎◌, inl, inr}
+use Rattle.std.proofs.Common.{◌≡◌, ℕ, zero, suc, ◌+◌, ◌<◌, ◌≤◌, Bool, true, false, ◌&&◌, nat_lt, List, length, get_or, Some, None, ℤ, IsSome, nat_eq, if◌then◌else◌, refl, sym, ap, ◌∙◌, subst, arith, ◌⊎◌, inl, inr}
 use Rattle.std.proofs.lemmas.Bool.{both_ways, cases_Bool, cases_eq, cases_lt}
 use Rattle.std.proofs.lemmas.Bool.Decides.{eqb_tells}
 use Rattle.std.proofs.lemmas.List.{get_or_past}
 use Rattle.bm_base.specs.Mask.{has_bit}
 use Rattle.bm_base.proofs.MaskBits.{same_bits}
-use Rattle.tuple_ir.specs.declared.tuple.Tuple.{Tuple}
-use Rattle.line_model.specs.Streams.{stream, masks}
-use Rattle.unit_law.specs.State.{Code, Program, Mode, In, Entering, Ended, Work, Idle, Busy, State, Processor, at_start, code_at, processor, is_free, is_due, is_wait, waits, waiting_mask, next_item}
+use Rattle.line_model.specs.Streams.{masks}
+use Rattle.unit_law.specs.State.{Code, Program, In, Ended, Work, Idle, Busy, State, at_start, code_at, processor, is_free, is_due, is_wait, waits, waiting_mask, next_item}
 use Rattle.unit_law.specs.Units.{Choice, IsLawful, first_from}
-use Rattle.unit_law.specs.Steps.{Action, Advance, Branch, NoneDue, NoneStarts, May, may_to, after, after_to, least_tick, or_clock, tuple_at, target}
+use Rattle.unit_law.specs.Steps.{Advance, Branch, NoneDue, NoneStarts, May, may_to, after, after_to, least_tick, or_clock, target}
 use Rattle.unit_law.specs.OnUnit.{answer_at, answers_lawfully}
 use Rattle.unit_law.proofs.Least.{least_is}
 use Rattle.unit_law.proofs.Waiting.{waiting_has}
-use Rattle.bm_machine.specs.Work.{arity}
 use Rattle.bm_machine.specs.Shown.{IsKept, IsReached, unit_agrees, all_work_rightly, works_rightly}
 use Rattle.bm_machine.proofs.Goes.{reached_other}
 

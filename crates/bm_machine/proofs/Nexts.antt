@@ -3,9 +3,9 @@ use Rattle.std.proofs.Common.{◌≡◌, ℕ, zero, suc, ◌+◌, ◌<◌, ◌�
 use Rattle.std.proofs.lemmas.Bool.{cases_lt, both_ways, and_from, cond-false}
 use Rattle.unit_law.specs.State.{Code, Program, Mode, In, Entering, Ended, State, Work, Idle, Busy, code_at, processor, is_free, is_due, next_item}
 use Rattle.unit_law.specs.Units.{Choice, first_from}
-use Rattle.unit_law.specs.Steps.{Action, Finish, Fire, Start, Branch, Advance, Enter, NoneDue, NoneStarts, IsNext, least_tick}
+use Rattle.unit_law.specs.Steps.{Action, Finish, Fire, Start, Branch, Advance, NoneDue, NoneStarts, least_tick}
 use Rattle.unit_law.specs.OnUnit.{answer_at}
-use Rattle.unit_law.specs.Canonical.{Durations, numbered, or_else, due_finish, is_do, can_start, time_for, is_none, is_at_end, block_branch, block_advance, next_in, next_to}
+use Rattle.unit_law.specs.Canonical.{Durations, numbered, or_else, due_finish, is_do, can_start, time_for, is_none, is_at_end, block_branch, block_advance, next_to}
 use Rattle.unit_law.proofs.ReadyFacts.{none_passes}
 use Rattle.unit_law.proofs.Kept.{not_due_past}
 use Rattle.unit_law.proofs.CanonicalRuns.{numbered_none}

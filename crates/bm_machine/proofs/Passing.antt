@@ -1,5 +1,5 @@
 -- The members of a mask pass their waits, one processor after another.
-use Rattle.std.proofs.Common.{◌≡◌, ℕ, suc, ◌+◌, ◌<◌, ◌≤◌, Bool, List, [], ◌∷◌, ◌++◌, length, map, take, drop, get_or, set, Some, slice_get, refl, sym, ap, ◌∙◌, arith, if◌then◌else◌, get_or-set_same}
+use Rattle.std.proofs.Common.{◌≡◌, ℕ, suc, ◌+◌, ◌<◌, List, [], ◌∷◌, ◌++◌, length, map, take, drop, get_or, set, sym, ap, ◌∙◌, arith, if◌then◌else◌, get_or-set_same}
 use Rattle.std.proofs.lemmas.List.{map_more, take-set, get_or-drop, drop-drop, length-map, length-take, length-set}
 use Rattle.bm_base.specs.Mask.{has_bit}
 use Rattle.unit_law.specs.State.{Processor}

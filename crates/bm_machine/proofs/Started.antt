@@ -1,28 +1,27 @@
 -- What a Start leaves of what a machine keeps.
-use Rattle.std.proofs.Common.{◌≡◌, ℕ, zero, suc, ◌+◌, ◌<◌, ◌≤◌, Bool, true, false, ◌&&◌, List, [], ◌∷◌, length, take, get_or, set, slice_get, Option, Some, None, ℤ, nat_lt, refl, sym, ap, ap₂, ◌∙◌, subst, arith, ◌⊎◌, inl, inr, get_or-set_same, get_or-set_other, length-set, map}
+use Rattle.std.proofs.Common.{◌≡◌, ℕ, zero, suc, ◌+◌, ◌<◌, ◌≤◌, Bool, true, false, ◌&&◌, List, [], ◌∷◌, length, take, get_or, set, slice_get, Some, ℤ, nat_lt, refl, sym, ap, ap₂, ◌∙◌, subst, arith, ◌⊎◌, inl, inr, get_or-set_same, get_or-set_other, length-set, map}
 use Rattle.std.proofs.lemmas.Bool.{cases_eq, both_ways, and_parts}
 use Rattle.std.proofs.lemmas.List.{length-map, map-set}
-use Rattle.std.proofs.lemmas.Option.{slice_get_within, slice_get-get_or}
-use Rattle.bm_base.specs.declared.spec.Interval.{Interval}
+use Rattle.std.proofs.lemmas.Option.{slice_get-get_or}
 use Rattle.bm_base.specs.Machine as base
 use Rattle.bm_base.proofs.MaskBits.{same_bits}
 use Rattle.tuple_ir.specs.declared.tuple.Tuple.{Tuple}
 use Rattle.tuple_ir.specs.declared.event.Event.{Event}
 use Rattle.tuple_ir.specs.declared.event.Event.TheVariants.{Started}
-use Rattle.tuple_ir.specs.World.{World, reads}
+use Rattle.tuple_ir.specs.World.{reads}
 use Rattle.line_model.specs.declared.line.StreamItem.{StreamItem}
 use Rattle.line_model.specs.declared.line.StreamItem.TheVariants.{Do, Wait}
-use Rattle.line_model.specs.Streams.{stream, masks}
+use Rattle.line_model.specs.Streams.{stream}
 use Rattle.timing_script.specs.Duration.{IsWithin}
-use Rattle.unit_law.specs.State.{Code, Program, Mode, In, State, Processor, Work, Idle, Busy, at_start, code_at, interval_of, processor, is_free, is_wait, next_item, waits, waiting_mask}
-use Rattle.unit_law.specs.Steps.{Action, Start, May, MayIn, NoneDue, IsNext, IsTime, may_to, after, after_to, after_in, begun, started, with_processor, read_of, tuple_at}
+use Rattle.unit_law.specs.State.{Code, Program, In, State, Processor, Work, Idle, Busy, at_start, code_at, interval_of, processor, is_free, is_wait, next_item, waits, waiting_mask}
+use Rattle.unit_law.specs.Steps.{Start, May, NoneDue, IsNext, IsTime, may_to, after, after_to, begun, started, with_processor, read_of, tuple_at}
 use Rattle.unit_law.specs.Canonical.{Durations, is_do, can_start, time_for, time_from}
 use Rattle.unit_law.proofs.Waiting.{waiting_has}
 use Rattle.bm_machine.specs.declared.actor.Actor.{Actor}
 use Rattle.bm_machine.specs.declared.actor.Task.TheVariants.{Runs}
 use Rattle.bm_machine.specs.Core.{IsCore}
-use Rattle.bm_machine.specs.Work.{names_hold, arity}
-use Rattle.bm_machine.specs.Shown.{HasCounts, IsKept, IsReached, works_rightly, all_work_rightly, unit_agrees, processor_of}
+use Rattle.bm_machine.specs.Work.{names_hold}
+use Rattle.bm_machine.specs.Shown.{IsKept, IsReached, works_rightly, all_work_rightly, unit_agrees, processor_of}
 use Rattle.bm_machine.specs.Next.{counts_after}
 use Rattle.bm_machine.specs.Moves.{Starts}
 use Rattle.bm_machine.proofs.Goes.{reached_start}

@@ -1,11 +1,9 @@
 -- What a machine keeps, within a block.
-use Rattle.std.proofs.Common.{◌≡◌, ℕ, zero, suc, ◌+◌, ◌<◌, ◌≤◌, Bool, true, false, ◌&&◌, List, [], ◌∷◌, length, map, get_or, set, slice_get, Option, Some, None, nat_lt, refl, sym, ap, ◌∙◌, subst, arith, ◌⊎◌, inl, inr, get_or-set_same, get_or-set_other, length-set}
-use Rattle.std.proofs.lemmas.Bool.{cases_eq, both_ways}
+use Rattle.std.proofs.Common.{◌≡◌, ℕ, ◌<◌, true, ◌&&◌, List, length, map, get_or, set, slice_get, nat_lt, refl, sym, ap, ◌∙◌, subst, get_or-set_other, length-set}
 use Rattle.std.proofs.lemmas.List.{get_or-map}
 use Rattle.bm_base.specs.Mask.{has_bit}
-use Rattle.bm_base.proofs.MaskBits.{same_bits}
 use Rattle.line_model.specs.Streams.{stream, masks}
-use Rattle.unit_law.specs.State.{Code, Program, Mode, In, State, Processor, Work, Idle, Busy, at_start, code_at, processor, is_free, is_due, is_wait, waits, waiting_mask}
+use Rattle.unit_law.specs.State.{Code, Program, In, State, Processor, Work, Idle, Busy, at_start, code_at, is_free, is_wait, waits}
 use Rattle.unit_law.specs.Units.{has_unfired}
 use Rattle.unit_law.specs.Fit.{AllFit}
 use Rattle.unit_law.specs.Determinate.{HasFinished}
@@ -14,7 +12,7 @@ use Rattle.unit_law.proofs.Ordered.{Holds, run_holds}
 use Rattle.unit_law.proofs.Waiters.{waiters_unfired}
 use Rattle.unit_law.proofs.Waiting.{waiting_has}
 use Rattle.bm_machine.specs.declared.actor.Actor.{Actor}
-use Rattle.bm_machine.specs.Shown.{processor_of, IsReached, IsKept, unit_agrees, works_rightly, all_work_rightly, standing}
+use Rattle.bm_machine.specs.Shown.{processor_of, IsReached, IsKept, unit_agrees, all_work_rightly, standing}
 
 -- ---- what is reached
 pub reached_inside : (m : Program) (s : State) (counts : List ℕ) (b : ℕ) → AllFit m → (r : IsReached m s counts) → s.mode ≡ In b → Inside m (code_at m b) (HasFinished m r.memory r.past) s

@@ -2,10 +2,9 @@
 use Rattle.std.specs.Prelude.{◌≡◌, ℕ, ◌<◌, ◌≤◌, true, length, Some, slice_get, List, ℤ}
 use Rattle.bm_base.specs.Entry.{Entry}
 use Rattle.bm_base.specs.Mask.{has_bit}
-use Rattle.bm_base.specs.declared.names.Kind.{Kind}
 use Rattle.bm_base.specs.declared.names.Kind.TheVariants.{Var, Array}
 use Rattle.tuple_ir.specs.declared.tuple.Tuple.{Tuple}
-use Rattle.tuple_ir.specs.declared.tuple.Tuple.TheVariants.{Const, Load, Store, LoadEl, StoreEl, One, Two, Print}
+use Rattle.tuple_ir.specs.declared.tuple.Tuple.TheVariants.{Load, Store, LoadEl, StoreEl}
 use Rattle.tuple_ir.specs.declared.block.Next.{Next}
 use Rattle.tuple_ir.specs.declared.block.Next.TheVariants.{Halt, Goto, If}
 use Rattle.tuple_ir.specs.Conflict.{Conflict, uses}

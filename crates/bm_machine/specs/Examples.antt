@@ -1,5 +1,5 @@
 -- Two small programs with their lines, on the default machine.
-use Rattle.std.specs.Prelude.{ℕ, List, [], ◌∷◌, ℤ, pos}
+use Rattle.std.specs.Prelude.{List, [], ◌∷◌, ℤ, pos}
 use Rattle.bm_base.specs.Entry.{Entry}
 use Rattle.bm_base.specs.Spec.{standard}
 use Rattle.bm_base.specs.declared.names.Kind.TheVariants.{Var}

@@ -1,7 +1,7 @@
 -- What each call of `next` does: its event is the next action of the canonical run, or the next two.
 --
 -- The counts of what each processor has started stand for the run so far, of which the canonical run asks nothing else.
-use Rattle.std.specs.Prelude.{◌≡◌, ℕ, zero, suc, ◌+◌, ◌-◌, ◌*◌, ◌<◌, ◌≤◌, ◌⊎◌, Bool, true, false, List, [], ◌∷◌, length, get_or, set, drop, take, Option, Some, None, slice_get, if◌then◌else◌, count_by, not, ℤ}
+use Rattle.std.specs.Prelude.{◌≡◌, ℕ, ◌+◌, ◌-◌, ◌*◌, ◌⊎◌, Bool, true, false, List, [], ◌∷◌, get_or, set, drop, take, Option, Some, None, slice_get, if◌then◌else◌, count_by, not, ℤ}
 use Rattle.tuple_ir.specs.declared.tuple.Tuple.{Tuple}
 use Rattle.tuple_ir.specs.declared.tuple.Tuple.TheVariants.{Print}
 use Rattle.tuple_ir.specs.declared.event.Event.{Event}
@@ -9,7 +9,7 @@ use Rattle.tuple_ir.specs.declared.event.Event.TheVariants.{Started, Finished, P
 use Rattle.line_model.specs.declared.line.StreamItem.{StreamItem}
 use Rattle.line_model.specs.declared.line.StreamItem.TheVariants.{Do, Wait}
 use Rattle.line_model.specs.Streams.{stream, masks}
-use Rattle.unit_law.specs.State.{Code, Program, Mode, In, Entering, Ended, State, Processor, Work, Idle, Busy, code_at, processor, is_free, next_item}
+use Rattle.unit_law.specs.State.{Code, Program, Mode, In, Entering, Ended, State, Busy, code_at, processor, is_free, next_item}
 use Rattle.unit_law.specs.Units.{Choice}
 use Rattle.unit_law.specs.Steps.{Action, Finish, Fire, Start, Branch, Advance, Enter, May, after, tuple_at}
 use Rattle.unit_law.specs.Canonical.{Durations, next_to}

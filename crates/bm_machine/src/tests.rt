@@ -123,10 +123,7 @@ fn falling_core(alloc: Global, names: Names) -> Result<Core, AllocError>
             Tuple::Store { name: 0, value: 2 },
         ],
     )?;
-    let printing = tuples_of(
-        alloc,
-        &[Tuple::Load { name: 0 }, Tuple::Print { value: 0 }],
-    )?;
+    let printing = tuples_of(alloc, &[Tuple::Load { name: 0 }, Tuple::Print { value: 0 }])?;
     let first = line_of(
         alloc,
         &[

@@ -1,4 +1,4 @@
-use Rattle.std.proofs.Common.{◌≡◌, ℕ, map, take, drop, ◌++◌, length}
+use Rattle.std.proofs.Common.{◌≡◌, map, take, drop, length}
 use Rattle.unit_law.specs.Steps.{passed}
 use Rattle.bm_machine.specs.Shown.{processor_of}
 use Rattle.bm_machine.proofs.arrive.pass.Given as goal

@@ -1,7 +1,6 @@
-use Rattle.std.proofs.Common.{◌≡◌, ◌<◌, ◌≤◌, ℕ, true, refl, ap, sym, ◌∙◌, arith, subst, length}
+use Rattle.std.proofs.Common.{◌≡◌, ◌<◌, true, refl, ap, sym, ◌∙◌, arith, length}
 use Rattle.bm_base.specs.Mask.{has_bit}
 use Rattle.unit_law.specs.State.{waits, code_at}
-use Rattle.unit_law.specs.Units.{has_unfired}
 use Rattle.bm_machine.specs.Shown.{standing}
 use Rattle.bm_machine.proofs.Arrivals.{waits_is, told_within, told_below, told_all}
 use Rattle.bm_machine.proofs.arrive.tell.Goals as goal

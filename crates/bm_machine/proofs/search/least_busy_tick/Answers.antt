@@ -1,6 +1,6 @@
-use Rattle.std.proofs.Common.{◌≡◌, ℕ, map, take, ap, sym, ◌∙◌, take_all}
-use Rattle.unit_law.specs.Steps.{tick, lesser, least_tick}
-use Rattle.bm_machine.specs.Shown.{work_of, processor_of}
+use Rattle.std.proofs.Common.{map, take, ap, sym, ◌∙◌, take_all}
+use Rattle.unit_law.specs.Steps.{lesser, least_tick}
+use Rattle.bm_machine.specs.Shown.{processor_of}
 use Rattle.bm_machine.proofs.Ticks.{least_next}
 use Rattle.bm_machine.proofs.search.least_busy_tick.Goals as goal
 

@@ -1,4 +1,4 @@
-use Rattle.std.proofs.Common.{◌≡◌, ◌<◌, ◌≤◌, ℕ, length, sym, ap, ◌∙◌, arith, false, ◌&&◌}
+use Rattle.std.proofs.Common.{◌≡◌, ◌<◌, length, sym, ap, ◌∙◌, arith}
 use Rattle.unit_law.specs.State.{code_at}
 use Rattle.unit_law.specs.Canonical.{can_start}
 use Rattle.bm_machine.specs.Shown.{standing_at}

@@ -1,12 +1,10 @@
-use Rattle.std.proofs.Common.{◌≡◌, ℕ, ◌+◌, ◌<◌, ◌≤◌, true, false, List, length, replicate, map, refl, sym, ap, ◌∙◌, subst, arith}
+use Rattle.std.proofs.Common.{◌≡◌, ℕ, ◌+◌, ◌<◌, false, length, replicate, map, refl, sym, ap, ◌∙◌, subst, arith}
 use Rattle.std.proofs.lemmas.List.{length-map}
-use Rattle.line_model.specs.Streams.{masks}
-use Rattle.unit_law.specs.State.{Program, State, In, Entering, at_start, code_at, entered, waits}
+use Rattle.unit_law.specs.State.{State, In, Entering, at_start, code_at, entered, waits}
 use Rattle.unit_law.specs.Steps.{Branch, Enter, May, after, target}
-use Rattle.bm_machine.specs.declared.actor.Actor.{Actor}
 use Rattle.bm_machine.specs.declared.machine.Machine.TheInside.{Inside}
 use Rattle.bm_machine.specs.Core.{IsCore}
-use Rattle.bm_machine.specs.Shown.{Shown, mode_of, processor_of, standing}
+use Rattle.bm_machine.specs.Shown.{mode_of, processor_of, standing}
 use Rattle.bm_machine.proofs.Begins.{resting, rests}
 use Rattle.bm_machine.proofs.Finished.{state_is}
 use Rattle.bm_machine.proofs.WithinBlock.{waits_standing}

@@ -1,4 +1,4 @@
-use Rattle.std.proofs.Common.{◌≡◌, ℕ, ◌<◌, ◌≤◌, true, List, ◌∷◌, [], slice_get, ◌++◌, drop, length, take, get_or, map, set, Some, ℤ, pos, refl, sym, ap, ap₂, ◌∙◌, subst, arith, rules, length-set}
+use Rattle.std.proofs.Common.{◌≡◌, ℕ, ◌<◌, true, List, ◌∷◌, [], slice_get, ◌++◌, drop, length, take, get_or, map, set, Some, pos, refl, sym, ap, ap₂, ◌∙◌, subst, arith, rules, length-set}
 use Rattle.std.proofs.lemmas.Int.{to_z-of_z}
 use Rattle.std.proofs.lemmas.List.{length-map, take_at}
 use Rattle.std.proofs.lemmas.Option.{slice_get-get_or}
@@ -7,17 +7,17 @@ use mir.Val.{SFits, to_z, of_z}
 use Rattle.tuple_ir.specs.declared.tuple.Tuple.{Tuple}
 use Rattle.tuple_ir.specs.declared.tuple.Tuple.TheVariants.{Const}
 use Rattle.tuple_ir.specs.World.{write}
-use Rattle.unit_law.specs.State.{Program, State, In, Busy, Processor, at_start, code_at, processor, is_due, waits}
-use Rattle.unit_law.specs.Steps.{Finish, after, after_in, tuple_at}
+use Rattle.unit_law.specs.State.{State, In, Busy, code_at, processor, is_due, waits}
+use Rattle.unit_law.specs.Steps.{Finish, after_in, tuple_at}
 use Rattle.bm_machine.specs.declared.actor.Task.TheVariants.{Rest}
 use Rattle.bm_machine.specs.declared.actor.Actor.{Actor}
 use Rattle.bm_machine.specs.declared.machine.Machine.TheInside.{Inside}
 use Rattle.bm_machine.specs.Work.{arity, value_of, printed, world}
 use Rattle.bm_machine.specs.Next.{is_print, left_in}
 use Rattle.bm_machine.specs.Moves.{Finishes, finish_event}
-use Rattle.bm_machine.specs.Shown.{Shown, IsKept, mode_of, processor_of, standing}
+use Rattle.bm_machine.specs.Shown.{mode_of, processor_of, standing}
 use Rattle.bm_machine.proofs.WithinBlock.{waits_standing, reached_long}
-use Rattle.bm_machine.proofs.Finished.{Finishing, actor_within, actor_works, actor_freed, few_tuples, tuple_within, names_there, finish_waits, finish_unfired, finish_state, finish_kept, finish_gives, finish_may}
+use Rattle.bm_machine.proofs.Finished.{Finishing, actor_works, actor_freed, few_tuples, tuple_within, names_there, finish_waits, finish_unfired, finish_state, finish_kept, finish_gives}
 use Rattle.bm_machine.proofs.Falls.{finish_less}
 use Rattle.bm_machine.proofs.machine.Machine.finish.Given as given
 use Rattle.bm_machine.proofs.machine.Machine.finish.Goals as goal

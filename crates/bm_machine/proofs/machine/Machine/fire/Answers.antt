@@ -1,19 +1,17 @@
-use Rattle.std.proofs.Common.{◌≡◌, ℕ, ◌<◌, ◌≤◌, true, not, ◌&&◌, List, ◌∷◌, [], ◌++◌, slice_get, drop, length, take, get_or, map, set, Some, refl, sym, ap, ◌∙◌, subst, arith, bit_and}
-use Rattle.std.specs.Int.{bit_not, w64}
-use Rattle.std.proofs.lemmas.List.{length-map, take_at, get_or_read}
+use Rattle.std.proofs.Common.{◌≡◌, ℕ, ◌<◌, true, not, ◌&&◌, List, ◌++◌, slice_get, drop, length, take, get_or, map, Some, refl, sym, ap, ◌∙◌, subst, arith}
+use Rattle.std.proofs.lemmas.List.{take_at, get_or_read}
 use Rattle.std.proofs.lemmas.Option.{get_or_from_slice_get, slice_get_within}
 use Rattle.bm_base.specs.Mask.{has_bit}
 use Rattle.tuple_ir.specs.declared.event.Event.TheVariants.{Fired}
 use Rattle.line_model.specs.Streams.{masks}
-use Rattle.unit_law.specs.State.{Program, State, In, code_at, waits}
+use Rattle.unit_law.specs.State.{State, In, code_at, waits}
 use Rattle.unit_law.specs.Units.{IsLawful, IsReady, fired_after, waiting_after, without}
-use Rattle.unit_law.specs.Steps.{Fire, May, NoneDue, after, after_in, passed}
+use Rattle.unit_law.specs.Steps.{Fire, NoneDue, after_in, passed}
 use Rattle.unit_law.specs.OnUnit.{answer_at, answers_lawfully}
 use Rattle.bm_machine.specs.declared.actor.Actor.{Actor}
 use Rattle.bm_machine.specs.declared.machine.Machine.TheInside.{Inside}
 use Rattle.bm_machine.specs.Core.{IsCore}
-use Rattle.bm_machine.specs.Next.{left_in}
-use Rattle.bm_machine.specs.Shown.{Shown, mode_of, processor_of, standing}
+use Rattle.bm_machine.specs.Shown.{mode_of, processor_of, standing}
 use Rattle.bm_machine.specs.Moves.{fires}
 use Rattle.bm_machine.proofs.WithinBlock.{waits_standing, actor_at, kept_agrees}
 use Rattle.bm_machine.proofs.Finished.{state_is}

@@ -1,6 +1,5 @@
-use Rattle.std.proofs.Common.{◌≡◌, ◌<◌, ◌≤◌, ℕ, refl, sym, ap, ◌∙◌, arith, replicate, pos, length, get_or, [], map, false, zero, subst}
+use Rattle.std.proofs.Common.{◌≡◌, ℕ, refl, sym, ap, ◌∙◌, arith, replicate, pos, length, get_or, [], map, false, zero, subst}
 use Rattle.std.proofs.lemmas.List.{length-replicate}
-use Rattle.line_model.specs.Streams.{masks}
 use Rattle.unit_law.specs.State.{code_at, In, at_start}
 use Rattle.bm_machine.specs.Shown.{processor_of, works_rightly}
 use Rattle.bm_machine.proofs.Begins.{resting, rests, start_is, zeros, entry_unfired, waiting_is, idle_at}
