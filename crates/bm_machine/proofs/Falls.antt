@@ -158,7 +158,7 @@ module _ (m : Program) (b : ℕ) (s : State) (inside : s.mode ≡ In b) where
   pub advance_same : length s.processors ≡ m.machine.processors → left_in m (after m s Advance) (after m s Advance).mode ≡ left_in m s s.mode
   advance_same long = subst (λ x. left_in m x x.mode ≡ left_in m s s.mode) (sym (does Advance)) (ap (left_in m (after_in m b s Advance)) inside ∙ advance_left m b s long ∙ sym (ap (left_in m s) inside))
 
-  enters : (c : ℕ) → (after m s Branch).mode ≡ Entering c → after m (after m s Branch) Enter ≡ entered m c (s.clock + 1) s.world
+  pub enters : (c : ℕ) → (after m s Branch).mode ≡ Entering c → after m (after m s Branch) Enter ≡ entered m c (s.clock + 1) s.world
   enters c to = ap (λ mode. after_to m mode (after m s Branch) Enter) to ∙ ap (λ t. entered m c (t.clock + 1) t.world) (does Branch)
 
   -- a Branch to a block, and its entry

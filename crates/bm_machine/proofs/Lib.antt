@@ -21,3 +21,8 @@ pub mod Finished
 pub mod Started
 pub mod Fired
 pub mod Leaves
+pub mod Lined
+pub mod Examples
+pub mod Nexts
+pub mod Answering
+pub mod Entering

@@ -23,6 +23,9 @@ agrees_in m s b queue waiting e h = subst (λ o. unit_agrees m s o queue waiting
 pub work_in : (m : Program) (s : State) (counts : List ℕ) (b : ℕ) → s.mode ≡ In b → all_work_rightly m s counts s.mode → all_work_rightly m s counts (In b)
 work_in m s counts b e h = subst (all_work_rightly m s counts) e h
 
+pub blocks_of : (m : Program) (s : State) (counts : List ℕ) (told capacity : ℕ) (queue : List ℕ) (waiting : ℕ) → IsKept m s counts told capacity queue waiting → (b : ℕ) → s.mode ≡ In b → b < length m.blocks
+blocks_of m s counts told capacity queue waiting k b mode = (work_in m s counts b mode k.work).0
+
 with_queue : (choice : Choice) (m : Program) (s : State) (b : ℕ) (queue : List ℕ) (waiting : ℕ) → queue ≡ masks (code_at m b).line → waiting ≡ waiting_mask (code_at m b) s → IsLawful queue s.fired (has_bit waiting) (choice queue s.fired waiting) → IsLawful (masks (code_at m b).line) s.fired (has_bit (waiting_mask (code_at m b) s)) (answer_at choice m b s)
 with_queue choice m s b queue waiting e f h = subst (λ w. IsLawful (masks (code_at m b).line) s.fired (has_bit w) (choice (masks (code_at m b).line) s.fired w)) f (subst (λ q. IsLawful q s.fired (has_bit waiting) (choice q s.fired waiting)) e h)
 
@@ -57,7 +60,7 @@ eqb_refl' n = go (eqb_tells n n)
     go (inl h) = h.0
     go (inr h) = absurd (h.1 refl)
 
-some_first : (f : ℕ → Bool) (k n p : ℕ) → k ≤ p → p < k + n → f p ≡ true → IsSome (first_from f k n)
+pub some_first : (f : ℕ → Bool) (k n p : ℕ) → k ≤ p → p < k + n → f p ≡ true → IsSome (first_from f k n)
 some_first f k zero p lo hi e = absurd (omega arith)
 some_first f k (suc n) p lo hi e = go (cases_Bool (f k)) (cases_eq k p) (λ l h. some_first f (suc k) n p l h e)
   where

@@ -2,6 +2,7 @@
 ghost use Rattle.std.specs.Prelude.{◌≡◌, ◌<◌, ◌≤◌, ℕ, length};
 ghost use Rattle.unit_law.specs.State.{Program, code_at};
 ghost use Rattle.bm_machine.specs.Core.{IsCore, IsLined};
+ghost use Rattle.bm_machine.specs.Examples.{sum_program, falling_program};
 
 /// A core keeps its facts block by block: with one line for each of at least one block, a program is
 /// that of a core where each block with its line is sound (`IsBlockSound`), the line fits it
@@ -10,4 +11,10 @@ ghost use Rattle.bm_machine.specs.Core.{IsCore, IsLined};
 /// each conflicting pair is ordered by processor or by barrier.
 pub fn cores_keep_each_block()
     ensures { (m : Program) → length m.lines ≡ length m.blocks → 1 ≤ length m.blocks → ((b : ℕ) → b < length m.blocks → IsLined m (code_at m b)) → IsCore m }
+{}
+
+/// The worked programs are those of cores.
+pub fn worked_cores()
+    ensures sum { IsCore sum_program }
+    ensures falling { IsCore falling_program }
 {}

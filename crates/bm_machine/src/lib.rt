@@ -9,11 +9,13 @@ mod machine;
 mod plan;
 mod program;
 mod search;
+#[cfg(test)]
+mod tests;
 mod work;
 
 pub use actor::{Actor, Stage, Task};
 pub use history::History;
-pub use laws::cores_keep_each_block;
+pub use laws::{cores_keep_each_block, worked_cores};
 pub use machine::Machine;
 pub use plan::Plan;
 pub use program::Core;

@@ -10,7 +10,7 @@ ghost use Rattle.unit_law.specs.OnUnit.{answer_at, answers_lawfully};
 ghost use Rattle.unit_law.specs.Canonical.{can_start, due_finish, block_branch, next_to};
 ghost use Rattle.bm_machine.specs.Shown.{HasCounts};
 ghost use Rattle.bm_machine.specs.Next.{Takes, StandsFor, tells, is_at, printed_by, event_clock, is_last, goes_on, left_in, still};
-ghost use Rattle.bm_machine.specs.Moves.{Stands, Starts, Finishes, fires, branches};
+ghost use Rattle.bm_machine.specs.Moves.{Stands, Starts, Finishes, fires, branches, Answers};
 
 use crate::actor::{Actor, Stage, Task};
 use crate::arrive::{pass, tell};
@@ -119,6 +119,8 @@ impl<'a, U: BarrierUnit, T: Timing> Machine<'a, U, T> {
     fn facts(&self)
         ensures stands { Stands self.now.program self.now.state }
         ensures lawful { (b : ℕ) → self.now.state.mode ≡ In b → answers_lawfully (U.choice self.now.unit) self.now.program self.now.state (In b) }
+        ensures ticks { (b tick : ℕ) → self.now.state.mode ≡ In b → least_tick self.now.state.clock self.now.state.processors ≡ Some tick → self.now.state.clock ≤ tick }
+        ensures blocks { (b : ℕ) → self.now.state.mode ≡ In b → b < length self.now.program.blocks }
     {
         self.core.laws();
         self.core.times();
@@ -331,14 +333,13 @@ impl<'a, U: BarrierUnit, T: Timing> Machine<'a, U, T> {
         ensures event { result ≡ Entered (self.old.state.clock + 1) next }
         ensures left { left_in self.new.program self.new.state self.new.state.mode < 1000 }
     {
+        self.facts();
         self.clock += 1;
         self.stage = Stage::Inside { block: next };
-        for p in 0..self.actors.len() {
-            self.actors[p] = Actor {
-                place: 0,
-                task: Task::Rest,
-            };
-        }
+        self.actors.fill(Actor {
+            place: 0,
+            task: Task::Rest,
+        });
         self.told = Mask::empty();
         self.unit.load(self.core.masks(next));
         tell(
@@ -375,7 +376,6 @@ impl<'a, U: BarrierUnit, T: Timing> Machine<'a, U, T> {
         requires none_fires { answer_at (U.choice self.now.unit) self.now.program block self.now.state ≡ None }
         requires none_starts { first_from (can_start (code_at self.now.program block) self.now.state) 0 self.now.program.machine.processors ≡ None }
         requires none_works { least_tick self.now.state.clock self.now.state.processors ≡ None }
-        ensures block { block < length self.now.program.blocks }
         ensures may { May self.now.program self.now.state Branch }
         ensures canonical { block_branch self.now.program (code_at self.now.program block) self.now.state ≡ Some Branch }
     {
@@ -400,11 +400,57 @@ impl<'a, U: BarrierUnit, T: Timing> Machine<'a, U, T> {
         ensures canonical { block_branch self.old.program (code_at self.old.program block) self.old.state ≡ Some Branch }
         ensures branches { branches self.old.program block until self.old.state result self.new.state }
     {
+        self.facts();
         self.leaves(block);
         match self.target(block) {
             None => self.halt(block),
             Some(_) if self.clock >= until => Event::Reached,
             Some(next) => self.enter(block, next),
+        }
+    }
+
+    /// Moves the clock to the tick at which the next Finish is due, and does it.
+    fn wait(&mut self, block: u32, tick: u64, until: u64) -> Event
+        requires within { self.old.state.mode ≡ In block }
+        requires none_due { due_finish self.old.program self.old.state ≡ None }
+        requires none_fires { answer_at (U.choice self.old.unit) self.old.program block self.old.state ≡ None }
+        requires none_starts { first_from (can_start (code_at self.old.program block) self.old.state) 0 self.old.program.machine.processors ≡ None }
+        requires least { least_tick self.old.state.clock self.old.state.processors ≡ Some tick }
+        requires early { tick ≤ until }
+        requires limit { until ≤ 1000000000000 }
+        ensures program { self.new.program ≡ self.old.program }
+        ensures choice { U.choice self.new.unit ≡ U.choice self.old.unit }
+        ensures timing { self.new.timing ≡ self.old.timing }
+        ensures answers { Answers (U.choice self.old.unit) (T.duration self.old.timing) self.old.program self.old.counts self.old.state until result self.new.counts self.new.state }
+    {
+        self.facts();
+        self.advance(block, tick);
+        match self.lowest_due() {
+            Some(p) => self.finish(block, p),
+            None => unreachable!(),
+        }
+    }
+
+    /// Where no Finish is due and nothing fires: a Start, the next Finish, or the block's end.
+    fn go_on(&mut self, block: u32, until: u64) -> Event
+        requires within { self.old.state.mode ≡ In block }
+        requires none_due { due_finish self.old.program self.old.state ≡ None }
+        requires none_fires { answer_at (U.choice self.old.unit) self.old.program block self.old.state ≡ None }
+        requires early { self.old.state.clock ≤ until }
+        requires limit { until ≤ 1000000000000 }
+        ensures program { self.new.program ≡ self.old.program }
+        ensures choice { U.choice self.new.unit ≡ U.choice self.old.unit }
+        ensures timing { self.new.timing ≡ self.old.timing }
+        ensures answers { Answers (U.choice self.old.unit) (T.duration self.old.timing) self.old.program self.old.counts self.old.state until result self.new.counts self.new.state }
+    {
+        self.facts();
+        if let Some(p) = self.lowest_start(block) {
+            return self.start(block, p);
+        }
+        match self.least_tick() {
+            None => self.branch(block, until),
+            Some(tick) if tick > until => Event::Reached,
+            Some(tick) => self.wait(block, tick, until),
         }
     }
 
@@ -429,11 +475,12 @@ impl<'a, U: BarrierUnit, T: Timing> Machine<'a, U, T> {
         ensures in_time { self.old.state.clock ≤ until → self.new.state.clock ≤ until }
         ensures falls { goes_on result ≡ true → still until self.new.program self.new.state < still until self.old.program self.old.state }
     {
-        if self.clock > until {
+        self.facts();
+        if self.clock() > until {
             return Event::Reached;
         }
         let Some(block) = self.block() else {
-            return Event::Ended { at: self.clock };
+            return Event::Ended { at: self.clock() };
         };
         if let Some(p) = self.lowest_due() {
             return self.finish(block, p);
@@ -441,107 +488,6 @@ impl<'a, U: BarrierUnit, T: Timing> Machine<'a, U, T> {
         if let Some(event) = self.fire(block) {
             return event;
         }
-        if let Some(p) = self.lowest_start(block) {
-            return self.start(block, p);
-        }
-        match self.least_tick() {
-            None => self.branch(block, until),
-            Some(tick) if tick > until => Event::Reached,
-            Some(tick) => {
-                self.advance(block, tick);
-                match self.lowest_due() {
-                    Some(p) => self.finish(block, p),
-                    None => unreachable!(),
-                }
-            }
-        }
-    }
-}
-
-#[cfg(test)]
-mod tests {
-    use super::*;
-    use bm_base::{Bin, Kind, Names, Spec};
-    use line_model::{Item, Items, Line};
-    use sbm_unit::Sbm;
-    use std::test::Fail;
-    use timing_script::Script;
-    use tuple_ir::{Block, BlockList, Blocks, Tuples};
-
-    // Tuple i stands on processor i mod 4, with a barrier of all before each but the first.
-    fn spread(alloc: Global, tuples: u8) -> Result<Line, AllocError> {
-        let mut all = Mask::empty();
-        for p in 0..4 {
-            all.insert(p);
-        }
-        let mut items = Items::new(alloc);
-        for i in 0..tuples {
-            if i > 0 {
-                items.push(Item::Bar { mask: all })?;
-            }
-            items.push(Item::Run {
-                processor: i % 4,
-                tuple: i,
-            })?;
-        }
-        Ok(Line { items })
-    }
-
-    // x = 2 + 3; print x;
-    fn sum(alloc: Global) -> Result<Tuples, AllocError> {
-        let mut tuples = Tuples::new(alloc);
-        tuples.push(Tuple::Const { value: 2 })?;
-        tuples.push(Tuple::Const { value: 3 })?;
-        tuples.push(Tuple::Two {
-            op: Bin::Add,
-            a: 0,
-            b: 1,
-        })?;
-        tuples.push(Tuple::Store { name: 0, value: 2 })?;
-        tuples.push(Tuple::Load { name: 0 })?;
-        tuples.push(Tuple::Print { value: 4 })?;
-        Ok(tuples)
-    }
-
-    #[test]
-    fn a_sum_is_printed_at_the_times_of_its_tuples(rt: HostRuntime) -> Result<(), Fail> {
-        let alloc = rt.alloc();
-        for (timing, end) in [(Script::Least, 6), (Script::Most, 10)] {
-            let mut names = Names::new(alloc);
-            let added = names.add(b"x", Kind::Var { initial: 0 });
-            assert!(rt; added.is_ok());
-            let store = Store::new(alloc, &names)?;
-            let mut blocks = BlockList::new(alloc);
-            blocks.push(Block {
-                tuples: sum(alloc)?,
-                next: Next::Halt,
-            })?;
-            let mut lines = Vec::new(alloc);
-            lines.push(spread(alloc, 6)?)?;
-            let core = Core::of(alloc, Spec::standard(), Blocks { names, blocks }, &lines)?;
-            let unit = Sbm::new(alloc, core.most_masks())?;
-            let mut machine = Machine::new(alloc, &core, store, unit, timing)?;
-            let mut printed = 0;
-            let mut turns = 0;
-            loop {
-                match machine.next(1000) {
-                    Event::Printed { value, .. } => printed = value,
-                    Event::Ended { at } => {
-                        assert_eq!(rt; at, end);
-                        break;
-                    }
-                    _ => {}
-                }
-                turns += 1;
-                if turns > 100 {
-                    break;
-                }
-            }
-            assert_eq!(rt; printed, 5);
-            assert_eq!(rt; machine.clock(), end);
-            assert_eq!(rt; machine.store().get(0), 5);
-            assert_eq!(rt; machine.next(3), Event::Reached);
-        }
-        Ok(())
+        self.go_on(block, until)
     }
 }
