@@ -25,3 +25,4 @@ pub mod Lined
 pub mod Examples
 pub mod Nexts
 pub mod Answering
+pub mod Entering

@@ -333,14 +333,13 @@ impl<'a, U: BarrierUnit, T: Timing> Machine<'a, U, T> {
         ensures event { result ≡ Entered (self.old.state.clock + 1) next }
         ensures left { left_in self.new.program self.new.state self.new.state.mode < 1000 }
     {
+        self.facts();
         self.clock += 1;
         self.stage = Stage::Inside { block: next };
-        for p in 0..self.actors.len() {
-            self.actors[p] = Actor {
-                place: 0,
-                task: Task::Rest,
-            };
-        }
+        self.actors.fill(Actor {
+            place: 0,
+            task: Task::Rest,
+        });
         self.told = Mask::empty();
         self.unit.load(self.core.masks(next));
         tell(
