@@ -23,7 +23,9 @@ use std::alloc::{AllocError, Global};
 use std::marker::Model;
 use timing_script::Timing;
 use tuple_ir::{Event, Next, Tuple, class};
-use unit_law::{BarrierUnit, canonical_runs_are_runs, choices_are_lawful, waiting_processors_have_masks};
+use unit_law::{
+    BarrierUnit, canonical_runs_are_runs, choices_are_lawful, waiting_processors_have_masks,
+};
 
 /// A run of a core on a barrier unit with a timing.
 #[derive(Drop)]

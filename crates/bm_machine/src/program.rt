@@ -47,12 +47,7 @@ fn is_time(spec: &Spec, class: Class)
 impl Core {
     /// The core of blocks with their lines, in order; `cores_keep_each_block` says what it asks, block
     /// by block. It keeps streams and queues of the lines, and not the lines.
-    pub fn of(
-        alloc: Global,
-        spec: Spec,
-        blocks: Blocks,
-        lines: &[Line],
-    ) -> Result<Core, AllocError>
+    pub fn of(alloc: Global, spec: Spec, blocks: Blocks, lines: &[Line]) -> Result<Core, AllocError>
         requires { IsCore (record { machine = spec; names = blocks.names; blocks = blocks.blocks; lines = map (λ l. l.items) lines.now }) }
         ensures { IfOk result (λ core. core ≡ record { machine = spec; names = blocks.names; blocks = blocks.blocks; lines = map (λ l. l.items) lines.now }) }
     {

@@ -3,7 +3,7 @@ ghost use Rattle.std.specs.Prelude.{◌≡◌, ◌<◌, ◌^◌, IfOk, bit_or, p
 ghost use Rattle.line_model.specs.declared.line.Item.TheVariants.{Run, Bar};
 ghost use Rattle.bm_machine.specs.Examples.{only_x, sum_line, sum_program, falling_line, printing_line, falling_program};
 
-use crate::{Core, Machine, worked_cores};
+use crate::{Core, Machine, first_memories, worked_cores};
 use bm_base::{Bin, Kind, Mask, Names, NamesFault, Spec, Store};
 use line_model::{Item, Items, Line};
 use sbm_unit::Sbm;
@@ -135,10 +135,7 @@ fn falling_blocks(alloc: Global) -> Result<BlockList, AllocError>
             Tuple::Store { name: 0, value: 2 },
         ],
     )?;
-    let printing = tuples_of(
-        alloc,
-        &[Tuple::Load { name: 0 }, Tuple::Print { value: 0 }],
-    )?;
+    let printing = tuples_of(alloc, &[Tuple::Load { name: 0 }, Tuple::Print { value: 0 }])?;
     let mut blocks = BlockList::new(alloc);
     blocks.push(Block {
         tuples: falling,
@@ -214,6 +211,7 @@ fn a_sum_is_printed_at_the_times_of_its_tuples(rt: HostRuntime) -> Result<(), Fa
     let alloc = rt.alloc();
     for (timing, end) in [(Script::Least, 6), (Script::Most, 10)] {
         let core = sum_core(alloc, x(alloc, 0)?)?;
+        first_memories();
         let store = Store::new(alloc, core.names())?;
         let unit = Sbm::new(alloc, core.most_masks())?;
         let mut machine = Machine::new(alloc, &core, store, unit, timing)?;
@@ -239,6 +237,7 @@ fn a_sum_is_printed_at_the_times_of_its_tuples(rt: HostRuntime) -> Result<(), Fa
 fn a_block_that_goes_back_to_itself_is_entered_again(rt: HostRuntime) -> Result<(), Fail> {
     let alloc = rt.alloc();
     let core = falling_core(alloc, x(alloc, 2)?)?;
+    first_memories();
     let store = Store::new(alloc, core.names())?;
     let unit = Sbm::new(alloc, core.most_masks())?;
     let mut machine = Machine::new(alloc, &core, store, unit, Script::Most)?;
@@ -301,6 +300,7 @@ fn a_block_that_goes_back_to_itself_is_entered_again(rt: HostRuntime) -> Result<
 fn no_event_passes_the_tick_that_is_asked_for(rt: HostRuntime) -> Result<(), Fail> {
     let alloc = rt.alloc();
     let core = falling_core(alloc, x(alloc, 2)?)?;
+    first_memories();
     let store = Store::new(alloc, core.names())?;
     let unit = Sbm::new(alloc, core.most_masks())?;
     let mut machine = Machine::new(alloc, &core, store, unit, Script::Most)?;
