@@ -1,9 +1,9 @@
 // Worked runs on the static unit.
 ghost use Rattle.std.specs.Prelude.{◌≡◌, ◌<◌, ◌^◌, IfOk, bit_or, pos};
-ghost use Rattle.line_model.specs.declared.line.Item.TheVariants.{Run};
-ghost use Rattle.bm_machine.specs.Examples.{only_x, sum_program, falling_program};
+ghost use Rattle.line_model.specs.declared.line.Item.TheVariants.{Run, Bar};
+ghost use Rattle.bm_machine.specs.Examples.{only_x, sum_line, sum_program, falling_line, printing_line, falling_program};
 
-use crate::{Core, Machine};
+use crate::{Core, Machine, first_memories, worked_cores};
 use bm_base::{Bin, Kind, Mask, Names, NamesFault, Spec, Store};
 use line_model::{Item, Items, Line};
 use sbm_unit::Sbm;
@@ -11,16 +11,6 @@ use std::alloc::{AllocError, Global};
 use std::test::Fail;
 use timing_script::Script;
 use tuple_ir::{Block, BlockList, Blocks, Event, Next, Tuple, Tuples};
-
-fn line_of(alloc: Global, items: &[Item]) -> Result<Line, AllocError>
-    ensures { IfOk result (λ line. line.items ≡ items.now) }
-{
-    let mut list = Items::new(alloc);
-    for item in items {
-        list.push(*item)?;
-    }
-    Ok(Line { items: list })
-}
 
 fn tuples_of(alloc: Global, tuples: &[Tuple]) -> Result<Tuples, AllocError>
     ensures { IfOk result (λ list. list ≡ tuples.now) }
@@ -52,10 +42,9 @@ fn x(alloc: Global, initial: i64) -> Result<Names, NamesFault>
     Ok(names)
 }
 
-// x = 2 + 3; print x; with tuple i on processor i mod 4, and a barrier of all before each but the first.
-fn sum_core(alloc: Global, names: Names) -> Result<Core, AllocError>
-    requires { names ≡ only_x (pos 0) }
-    ensures { IfOk result (λ core. core ≡ sum_program) }
+// x = 2 + 3; print x;
+fn sum_blocks(alloc: Global) -> Result<BlockList, AllocError>
+    ensures { IfOk result (λ blocks. blocks ≡ sum_program.blocks) }
 {
     let tuples = tuples_of(
         alloc,
@@ -72,31 +61,12 @@ fn sum_core(alloc: Global, names: Names) -> Result<Core, AllocError>
             Tuple::Print { value: 4 },
         ],
     )?;
-    let all = Item::Bar {
-        mask: pair(0, 1).union(pair(2, 3)),
-    };
-    let line = line_of(
-        alloc,
-        &[
-            run(0, 0),
-            all,
-            run(1, 1),
-            all,
-            run(2, 2),
-            all,
-            run(3, 3),
-            all,
-            run(0, 4),
-            all,
-            run(1, 5),
-        ],
-    )?;
     let mut blocks = BlockList::new(alloc);
     blocks.push(Block {
         tuples,
         next: Next::Halt,
     })?;
-    Core::of(alloc, Spec::standard(), Blocks { names, blocks }, &[line])
+    Ok(blocks)
 }
 
 fn run(processor: u8, tuple: u8) -> Item
@@ -105,10 +75,52 @@ fn run(processor: u8, tuple: u8) -> Item
     Item::Run { processor, tuple }
 }
 
-// x falls by 1 until it is 0, on processors 0 and 1; then 2 loads it and 3 prints it.
-fn falling_core(alloc: Global, names: Names) -> Result<Core, AllocError>
-    requires { names ≡ only_x (pos 2) }
-    ensures { IfOk result (λ core. core ≡ falling_program) }
+fn bar(mask: Mask) -> Item
+    ensures { result ≡ Bar mask }
+{
+    Item::Bar { mask }
+}
+
+// A barrier of all four processors.
+fn all() -> Item
+    ensures { result ≡ Bar 15 }
+{
+    bar(pair(0, 1).union(pair(2, 3)))
+}
+
+// Tuple i on processor i modulo 4, and a barrier of all before each but the first.
+fn sum_line(alloc: Global) -> Result<Line, AllocError>
+    ensures { IfOk result (λ line. line.items ≡ sum_line) }
+{
+    let mut items = Items::new(alloc);
+    items.push(run(0, 0))?;
+    items.push(all())?;
+    items.push(run(1, 1))?;
+    items.push(all())?;
+    items.push(run(2, 2))?;
+    items.push(all())?;
+    items.push(run(3, 3))?;
+    items.push(all())?;
+    items.push(run(0, 4))?;
+    items.push(all())?;
+    items.push(run(1, 5))?;
+    Ok(Line { items })
+}
+
+fn sum_core(alloc: Global, names: Names) -> Result<Core, AllocError>
+    requires { names ≡ only_x (pos 0) }
+    ensures { IfOk result (λ core. core ≡ sum_program) }
+{
+    worked_cores();
+    let blocks = sum_blocks(alloc)?;
+    let mut lines = Vec::new(alloc);
+    lines.push(sum_line(alloc)?)?;
+    Core::of(alloc, Spec::standard(), Blocks { names, blocks }, &lines)
+}
+
+// x falls by 1 until it is 0, and is then printed.
+fn falling_blocks(alloc: Global) -> Result<BlockList, AllocError>
+    ensures { IfOk result (λ blocks. blocks ≡ falling_program.blocks) }
 {
     let falling = tuples_of(
         alloc,
@@ -124,20 +136,6 @@ fn falling_core(alloc: Global, names: Names) -> Result<Core, AllocError>
         ],
     )?;
     let printing = tuples_of(alloc, &[Tuple::Load { name: 0 }, Tuple::Print { value: 0 }])?;
-    let first = line_of(
-        alloc,
-        &[
-            run(0, 0),
-            run(1, 1),
-            Item::Bar { mask: pair(0, 1) },
-            run(0, 2),
-            run(0, 3),
-        ],
-    )?;
-    let second = line_of(
-        alloc,
-        &[run(2, 0), Item::Bar { mask: pair(2, 3) }, run(3, 1)],
-    )?;
     let mut blocks = BlockList::new(alloc);
     blocks.push(Block {
         tuples: falling,
@@ -151,12 +149,43 @@ fn falling_core(alloc: Global, names: Names) -> Result<Core, AllocError>
         tuples: printing,
         next: Next::Halt,
     })?;
-    Core::of(
-        alloc,
-        Spec::standard(),
-        Blocks { names, blocks },
-        &[first, second],
-    )
+    Ok(blocks)
+}
+
+// On processors 0 and 1.
+fn falling_line(alloc: Global) -> Result<Line, AllocError>
+    ensures { IfOk result (λ line. line.items ≡ falling_line) }
+{
+    let mut items = Items::new(alloc);
+    items.push(run(0, 0))?;
+    items.push(run(1, 1))?;
+    items.push(bar(pair(0, 1)))?;
+    items.push(run(0, 2))?;
+    items.push(run(0, 3))?;
+    Ok(Line { items })
+}
+
+// Processor 2 loads x, and 3 prints it.
+fn printing_line(alloc: Global) -> Result<Line, AllocError>
+    ensures { IfOk result (λ line. line.items ≡ printing_line) }
+{
+    let mut items = Items::new(alloc);
+    items.push(run(2, 0))?;
+    items.push(bar(pair(2, 3)))?;
+    items.push(run(3, 1))?;
+    Ok(Line { items })
+}
+
+fn falling_core(alloc: Global, names: Names) -> Result<Core, AllocError>
+    requires { names ≡ only_x (pos 2) }
+    ensures { IfOk result (λ core. core ≡ falling_program) }
+{
+    worked_cores();
+    let blocks = falling_blocks(alloc)?;
+    let mut lines = Vec::new(alloc);
+    lines.push(falling_line(alloc)?)?;
+    lines.push(printing_line(alloc)?)?;
+    Core::of(alloc, Spec::standard(), Blocks { names, blocks }, &lines)
 }
 
 fn started(at: u64, processor: u8, tuple: u8, time: u16) -> Event {
@@ -182,6 +211,7 @@ fn a_sum_is_printed_at_the_times_of_its_tuples(rt: HostRuntime) -> Result<(), Fa
     let alloc = rt.alloc();
     for (timing, end) in [(Script::Least, 6), (Script::Most, 10)] {
         let core = sum_core(alloc, x(alloc, 0)?)?;
+        first_memories();
         let store = Store::new(alloc, core.names())?;
         let unit = Sbm::new(alloc, core.most_masks())?;
         let mut machine = Machine::new(alloc, &core, store, unit, timing)?;
@@ -207,6 +237,7 @@ fn a_sum_is_printed_at_the_times_of_its_tuples(rt: HostRuntime) -> Result<(), Fa
 fn a_block_that_goes_back_to_itself_is_entered_again(rt: HostRuntime) -> Result<(), Fail> {
     let alloc = rt.alloc();
     let core = falling_core(alloc, x(alloc, 2)?)?;
+    first_memories();
     let store = Store::new(alloc, core.names())?;
     let unit = Sbm::new(alloc, core.most_masks())?;
     let mut machine = Machine::new(alloc, &core, store, unit, Script::Most)?;
@@ -269,6 +300,7 @@ fn a_block_that_goes_back_to_itself_is_entered_again(rt: HostRuntime) -> Result<
 fn no_event_passes_the_tick_that_is_asked_for(rt: HostRuntime) -> Result<(), Fail> {
     let alloc = rt.alloc();
     let core = falling_core(alloc, x(alloc, 2)?)?;
+    first_memories();
     let store = Store::new(alloc, core.names())?;
     let unit = Sbm::new(alloc, core.most_masks())?;
     let mut machine = Machine::new(alloc, &core, store, unit, Script::Most)?;
