@@ -1,0 +1,5 @@
+pub mod Does
+pub mod Equations
+pub mod ExprInduct
+pub mod Gives
+pub mod Serially
