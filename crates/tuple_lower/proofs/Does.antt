@@ -69,7 +69,7 @@ print_does v straight = rw (tuples-print v, statement-print v) (λ n w turns c b
     } in
     subst (λ y. Does w y (behind (value_of v w.memory ∷ []) (done turns w.memory))) (sym (with_last n us u w)) here)
 
-not_both : (b : Bool) → b ≡ false → b ≡ true → ⊥
+pub not_both : (b : Bool) → b ≡ false → b ≡ true → ⊥
 not_both b f y = let no : false ≡ true = sym f ∙ y in cc
 
 stmt_does : (z : RStmt) → StmtDoes z
@@ -92,11 +92,11 @@ does_then w x y o b d e =
     } in
     subst (λ q. Does w y q) (sym (and_then-done o b d.end)) whole
 
-and_left : (a b : Bool) → (a && b) ≡ true → a ≡ true
+pub and_left : (a b : Bool) → (a && b) ≡ true → a ≡ true
 and_left true b h = refl
 and_left false b h = h
 
-and_right : (a b : Bool) → (a && b) ≡ true → b ≡ true
+pub and_right : (a b : Bool) → (a && b) ≡ true → b ≡ true
 and_right true b h = h
 and_right false b h = let no : ⊥ = cc in absurd no
 

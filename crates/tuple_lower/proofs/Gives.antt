@@ -78,17 +78,17 @@ var_gives x = as_row (e.Var x) (λ n. tuple.Load x ∷ []) (λ m. variable m x) 
 element_gives : (x : ℕ) (i : RExpr) → ExprGives i → ExprGives (e.Element x i)
 element_gives x i g = as_row (e.Element x i) (λ n. expr_tuples i n ++ tuple.LoadEl x (last_of n (expr_tuples i n)) ∷ []) (λ m. element m x (value_of i m)) (tuples-element x i) (value-element x i)
     (λ n w h b.
-      let us = expr_tuples i n in
-      let k = g n w h (omega (arith, length-append us (tuple.LoadEl x (last_of n us) ∷ []))) in
-      let here = ap (λ m. element m x (cell (after_all n us w) (last_of n us))) k.same_memory ∙ ap (element w.memory x) k.value in
-      then_one n us (tuple.LoadEl x (last_of n us)) w (value_of i w.memory) (element w.memory x (value_of i w.memory)) k (ap (with_cell (after_all n us w) (n + length us)) here) b)
+    let us = expr_tuples i n in
+    let k = g n w h (omega (arith, length-append us (tuple.LoadEl x (last_of n us) ∷ []))) in
+    let here = ap (λ m. element m x (cell (after_all n us w) (last_of n us))) k.same_memory ∙ ap (element w.memory x) k.value in
+    then_one n us (tuple.LoadEl x (last_of n us)) w (value_of i w.memory) (element w.memory x (value_of i w.memory)) k (ap (with_cell (after_all n us w) (n + length us)) here) b)
 
 one_operand_gives : (op : Un) (a : RExpr) → ExprGives a → ExprGives (e.One op a)
 one_operand_gives op a g = as_row (e.One op a) (λ n. expr_tuples a n ++ tuple.One op (last_of n (expr_tuples a n)) ∷ []) (λ m. unary_value op (value_of a m)) (tuples-one op a) (value-one op a)
     (λ n w h b.
-      let us = expr_tuples a n in
-      let k = g n w h (omega (arith, length-append us (tuple.One op (last_of n us) ∷ []))) in
-      then_one n us (tuple.One op (last_of n us)) w (value_of a w.memory) (unary_value op (value_of a w.memory)) k (ap (λ y. with_cell (after_all n us w) (n + length us) (unary_value op y)) k.value) b)
+    let us = expr_tuples a n in
+    let k = g n w h (omega (arith, length-append us (tuple.One op (last_of n us) ∷ []))) in
+    then_one n us (tuple.One op (last_of n us)) w (value_of a w.memory) (unary_value op (value_of a w.memory)) k (ap (λ y. with_cell (after_all n us w) (n + length us) (unary_value op y)) k.value) b)
 
 two_give : (op : Bin) (a b : RExpr) (n : ℕ) (w : World) → ExprGives a → ExprGives b → length w.cells ≡ 128 → (us vs : List t.Tuple) → us ≡ expr_tuples a n → vs ≡ expr_tuples b (n + length us)
     → n + length (us ++ (vs ++ tuple.Two op (last_of n us) (last_of (n + length us) vs) ∷ [])) ≤ 128
@@ -105,7 +105,7 @@ two_give op a b n w g h c us vs is same fits =
     let more_room : n + length us + length vs ≤ 128 = omega (arith, l1, l2) in
     let first : Gives n us w x (value_of a w.memory) = subst (λ ts. Gives n ts w (after_all n ts w) (value_of a w.memory)) (sym is) (g n w c (subst (λ ts. n + length ts ≤ 128) is room)) in
     let second : Gives (n + length us) vs x y (value_of b x.memory) =
-        subst (λ ts. Gives (n + length us) ts x (after_all (n + length us) ts x) (value_of b x.memory)) (sym same) (h (n + length us) x first.many (subst (λ ts. n + length us + length ts ≤ 128) same more_room)) in
+    subst (λ ts. Gives (n + length us) ts x (after_all (n + length us) ts x) (value_of b x.memory)) (sym same) (h (n + length us) x first.many (subst (λ ts. n + length us + length ts ≤ 128) same more_room)) in
     let pair = both_give n us vs w x y (value_of a w.memory) (value_of b x.memory) first second in
     let row = after_all-append n us vs w in
     let pair_here : Gives n (us ++ vs) w (after_all n (us ++ vs) w) (value_of b x.memory) = subst (λ z. Gives n (us ++ vs) w z (value_of b x.memory)) (sym row) pair in
@@ -113,7 +113,7 @@ two_give op a b n w g h c us vs is same fits =
     let right : cell y (last_of (n + length us) vs) ≡ value_of b w.memory = second.value ∙ ap (value_of b) first.same_memory in
     let place : n + length (us ++ vs) ≤ 128 = omega (arith, l1, l2, l3) in
     let does : do_tuple (n + length (us ++ vs)) (Some u) (after_all n (us ++ vs) w) ≡ with_cell (after_all n (us ++ vs) w) (n + length (us ++ vs)) (binary_value op (value_of a w.memory) (value_of b w.memory)) =
-        rw row (ap (λ z. with_cell y (n + length (us ++ vs)) (binary_value op z (cell y (last_of (n + length us) vs)))) left ∙ ap (λ z. with_cell y (n + length (us ++ vs)) (binary_value op (value_of a w.memory) z)) right) in
+    rw row (ap (λ z. with_cell y (n + length (us ++ vs)) (binary_value op z (cell y (last_of (n + length us) vs)))) left ∙ ap (λ z. with_cell y (n + length (us ++ vs)) (binary_value op (value_of a w.memory) z)) right) in
     let whole = then_one n (us ++ vs) u w (value_of b x.memory) (binary_value op (value_of a w.memory) (value_of b w.memory)) pair_here does (omega (arith, l1, l2, l3, l4)) in
     subst (λ ts. Gives n ts w (after_all n ts w) (binary_value op (value_of a w.memory) (value_of b w.memory))) (append_assoc us vs (u ∷ [])) whole
 

@@ -3,3 +3,4 @@ pub mod Equations
 pub mod ExprInduct
 pub mod Gives
 pub mod Serially
+pub mod Soundness
