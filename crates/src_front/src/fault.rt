@@ -21,3 +21,45 @@ pub enum SourceFault {
     #[error("no memory")]
     Memory,
 }
+
+impl From<LexFault> for SourceFault {
+    ghost use Rattle.std.specs.Prelude.{◌≡◌};
+    ghost use Rattle.src_front.specs.Lifted.{of_lexer};
+
+    ghost from_gives = { λ fault e. e ≡ of_lexer fault };
+
+    fn from(fault: LexFault) -> Self {
+        match fault {
+            LexFault::Memory => SourceFault::Memory,
+            _ => SourceFault::Lex(fault),
+        }
+    }
+}
+
+impl From<ParseFault> for SourceFault {
+    ghost use Rattle.std.specs.Prelude.{◌≡◌};
+    ghost use Rattle.src_front.specs.Lifted.{of_parser};
+
+    ghost from_gives = { λ fault e. e ≡ of_parser fault };
+
+    fn from(fault: ParseFault) -> Self {
+        match fault {
+            ParseFault::Memory => SourceFault::Memory,
+            _ => SourceFault::Parse(fault),
+        }
+    }
+}
+
+impl From<NameFault> for SourceFault {
+    ghost use Rattle.std.specs.Prelude.{◌≡◌};
+    ghost use Rattle.src_front.specs.Lifted.{of_names};
+
+    ghost from_gives = { λ fault e. e ≡ of_names fault };
+
+    fn from(fault: NameFault) -> Self {
+        match fault {
+            NameFault::Memory => SourceFault::Memory,
+            _ => SourceFault::Names(fault),
+        }
+    }
+}

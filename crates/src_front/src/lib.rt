@@ -4,7 +4,12 @@
 #![tactic(auto)]
 
 mod fault;
+mod laws;
 mod source;
 
 pub use fault::SourceFault;
+pub use laws::texts_read_once;
 pub use source::read_source;
+
+#[cfg(test)]
+mod tests;

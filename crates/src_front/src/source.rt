@@ -7,11 +7,19 @@ ghost use Rattle.src_front.specs.declared.fault.SourceFault.{SourceFault};
 ghost use Rattle.src_front.specs.Reads.{Reads, FirstFault};
 
 use crate::fault::SourceFault;
-use src_names::Resolved;
+use src_lexer::lex;
+use src_names::{Resolved, resolve};
+use src_parser::parse;
+use src_tree::derived_trees_are_plain;
 use std::alloc::Global;
 
-/// The resolved program of a text.
-pub fn read_source(_alloc: Global, bytes: &[u8]) -> Result<Resolved, SourceFault>
+/// The resolved program that a text reads as.
+///
+/// # Errors
+///
+/// The first fault: that of the bytes; where they spell tokens, that of the tokens; where these
+/// derive a tree, that of its names. Want of memory may come for any text.
+pub fn read_source(alloc: Global, bytes: &[u8]) -> Result<Resolved, SourceFault>
     requires { length bytes.now < 2 ^ 32 - 1 }
     // What is given, the text reads as.
     ensures found { IfOk result (λ r. Reads bytes.now r) }
@@ -24,6 +32,8 @@ pub fn read_source(_alloc: Global, bytes: &[u8]) -> Result<Resolved, SourceFault
     ensures fault { IfErr result (λ e. (e ≢ SourceFault.Memory) → FirstFault bytes.now e) }
     ensures only_fault { (e : SourceFault) → FirstFault bytes.now e → MatchResult result (λ _. ⊥) (λ x. (x ≡ e) ⊎ (x ≡ SourceFault.Memory)) }
 {
-    let _ = bytes;
-    Err(SourceFault::Memory)
+    derived_trees_are_plain();
+    let tokens = lex(alloc, bytes)?;
+    let tree = parse(alloc, bytes, &tokens)?;
+    Ok(resolve(alloc, &tree)?)
 }

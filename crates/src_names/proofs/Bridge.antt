@@ -1,20 +1,19 @@
 -- The bytes of an identifier are a name as declared names take it.
-use Rattle.std.proofs.Common.{◌≡◌, ℕ, zero, suc, ◌<◌, ◌≤◌, Bool, true, false, ◌||◌, List, [], ◌∷◌, length, refl, sym, arith}
-use Rattle.std.specs.Prelude.{All, get_or, ◌==◌, if◌then◌else◌, nat_le, codes}
+use Rattle.std.proofs.Common.{◌≡◌, ℕ, suc, ◌≤◌, Bool, true, false, ◌||◌, List, [], ◌∷◌, length, refl, arith}
+use Rattle.std.specs.Prelude.{All, get_or, ◌==◌, if◌then◌else◌, nat_le}
 use Rattle.std.specs.Char.{is_ascii_digit, is_ascii_alphabetic}
-use Rattle.std.specs.List.{list_all, list_any}
+use Rattle.std.specs.List.{list_all}
 use Rattle.std.proofs.lemmas.Bool.{le-leb}
 use Rattle.std.proofs.lemmas.List.Sums.{list_all-from_AllPass}
 use Rattle.std.specs.Str.{bytes_eq}
 use Rattle.src_lexer.specs.declared.token.Keyword.TheVariants as w
-use Rattle.src_lexer.specs.declared.token.TokenKind.{TokenKind}
 use Rattle.src_lexer.specs.declared.token.TokenKind.TheVariants.{Name, Word}
-use Rattle.src_lexer.specs.Symbols.{word_of, keyword}
+use Rattle.src_lexer.specs.Symbols.{keyword}
 use Rattle.src_lexer.specs.Spell.{is_name_byte}
 use Rattle.src_lexer.specs.Laws.{IsNameText}
 use Rattle.src_tree.specs.declared.tree.Ident.{Ident}
 use Rattle.src_tree.specs.Plain.{IsName}
-use Rattle.bm_base.specs.Names.{is_name, begins_name, goes_on_name, is_reserved}
+use Rattle.bm_base.specs.Names.{is_name, goes_on_name, is_reserved}
 
 some_of : (a d u : Bool) → ((a || d) || u) ≡ true → ((a || u) || d) ≡ true
 some_of true d u h = refl

@@ -1,6 +1,6 @@
 -- One declaration more.
-use Rattle.std.proofs.Common.{◌≡◌, ◌≢◌, ◌⊎◌, ℕ, zero, suc, ◌+◌, ◌-◌, ◌^◌, ◌<◌, ◌≤◌, ℤ, pos, negsuc, Bool, true, false, min, List, [], ◌∷◌, ◌++◌, length, Option, Some, None, Result, Ok, Err, refl, sym, ap, ◌∙◌, subst, arith, inl, inr, take, drop}
-use Rattle.std.specs.Prelude.{◌≤ℤ◌, slice_get, get_or, nat_le, ◌&&◌, if◌then◌else◌}
+use Rattle.std.proofs.Common.{◌≡◌, ◌⊎◌, ℕ, zero, suc, ◌+◌, ◌-◌, ◌^◌, ◌<◌, ◌≤◌, ℤ, pos, negsuc, Bool, true, false, min, List, [], ◌∷◌, ◌++◌, length, Option, Some, None, Result, Ok, Err, refl, sym, ap, ◌∙◌, arith, inl, inr, take, drop}
+use Rattle.std.specs.Prelude.{slice_get, get_or, nat_le, ◌&&◌, if◌then◌else◌}
 use Rattle.std.specs.List.{list_all}
 use Rattle.std.proofs.lemmas.Option.{slice_get_within}
 use Rattle.std.proofs.lemmas.List.Sums.{sum_by_push}
@@ -26,7 +26,7 @@ use Rattle.src_names.specs.Fault as t
 use Rattle.src_names.specs.Fault.{IsFree, DeclaredAt, DeclFault, DeclsFault}
 use Rattle.src_names.specs.Adding.{kind_of, size_of}
 use Rattle.src_names.proofs.Bridge.{is_name_of}
-use Rattle.src_names.proofs.Find.{Placed, placed, absent}
+use Rattle.src_names.proofs.Find.{placed, absent}
 
 named_of : (x : Decl) → IsNamedWell x → is_name (name_of x).text ≡ true
 named_of (d.Var m v) w = is_name_of m w

@@ -1,9 +1,5 @@
 -- A tree is named by at most one resolved program.
-use Rattle.std.proofs.Common.{◌≡◌, ℕ, zero, suc, ◌<◌, ◌≤◌, ℤ, pos, List, [], ◌∷◌, ◌++◌, length, Some, refl, ap, sym, subst, ◌∙◌}
-use Rattle.std.specs.Prelude.{slice_get}
-use Rattle.bm_base.specs.declared.word.Un.{Un}
-use Rattle.bm_base.specs.declared.word.Bin.{Bin}
-use Rattle.bm_base.specs.declared.names.Kind.{Kind}
+use Rattle.std.proofs.Common.{◌≡◌, ℕ, ◌<◌, pos, List, [], ◌∷◌, refl, ap, sym, subst, ◌∙◌}
 use Rattle.bm_base.specs.declared.names.Kind.TheVariants as k
 use Rattle.bm_base.specs.Entry.{Entry}
 use Rattle.src_tree.specs.declared.tree.Ident.{Ident}

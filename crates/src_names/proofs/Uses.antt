@@ -1,5 +1,5 @@
 -- What is named uses its names rightly, and the first wrong use of a whole is that of a part.
-use Rattle.std.proofs.Common.{◌≡◌, ◌≢◌, ℕ, List, [], ◌∷◌, ◌++◌, map, refl, ap, sym, ◌∙◌, append_assoc}
+use Rattle.std.proofs.Common.{ℕ, List, [], ◌∷◌, ◌++◌, refl, ap, sym, ◌∙◌, append_assoc}
 use Rattle.bm_base.specs.Entry.{Entry}
 use Rattle.src_tree.specs.declared.tree.Ident.{Ident}
 use Rattle.src_tree.specs.declared.tree.Expr.{Expr}
@@ -11,7 +11,7 @@ use Rattle.src_names.specs.Named.{IsVar, IsArray, NamedExpr, NamedStmt, NamedBod
 use Rattle.src_names.specs.Named as n
 use Rattle.src_names.specs.Right.{IsVariableOf, IsArrayOf, RightExpr, RightStmt, RightBody}
 use Rattle.src_names.specs.Right as r
-use Rattle.src_names.specs.Fault.{Use, Plain, Indexed, uses, stmt_uses, body_uses, AsVar, AsArray, IsRightUse, AreRightUses, UseFault, UsesFault}
+use Rattle.src_names.specs.Fault.{Use, uses, stmt_uses, body_uses, AsVar, AsArray, AreRightUses, UseFault, UsesFault}
 use Rattle.src_names.proofs.Equations.{uses-number, uses-var, uses-element, uses-one, uses-two, uses-assign, uses-set, uses-print, uses-if, uses-while}
 
 module _ (es : List Entry) where

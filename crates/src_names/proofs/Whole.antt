@@ -1,5 +1,5 @@
 -- What the answers for a whole tree follow from.
-use Rattle.std.proofs.Common.{◌≡◌, ◌≢◌, ◌⊎◌, inl, inr, ℕ, ◌-◌, ◌^◌, ◌<◌, ◌≤◌, min, length, Result, Ok, Err, refl, sym, List, arith}
+use Rattle.std.proofs.Common.{◌≡◌, ◌≢◌, ◌⊎◌, inl, inr, ◌≤◌, length, Result, Ok, Err, refl, List, arith}
 use Rattle.std.specs.Prelude.{IfOk, IfErr, MatchResult}
 use Rattle.bm_base.specs.Entry.{Entry}
 use Rattle.src_tree.specs.declared.tree.Program.{Program}

@@ -18,10 +18,10 @@ use Rattle.src_names.specs.declared.fault.NameFault.{NameFault}
 use Rattle.src_names.specs.declared.fault.NameFault.TheVariants as m
 use Rattle.src_names.specs.Named as n
 use Rattle.src_names.specs.Named.{IsVar, IsArray, NamedExpr, NamedStmt, NamedBody}
-use Rattle.src_names.specs.Fault.{Use, Plain, Indexed, uses, stmt_uses, body_uses, AreRightUses, UseFault, UsesFault}
+use Rattle.src_names.specs.Fault.{Use, Plain, Indexed, uses, stmt_uses, body_uses, AreRightUses, UseFault}
 use Rattle.src_names.specs.Stops.{Stops}
 use Rattle.src_names.specs.Stops as t
-use Rattle.src_names.proofs.Equations.{uses-number, uses-var, uses-element, uses-one, uses-two, uses-assign, uses-set, uses-print, uses-if, uses-while}
+use Rattle.src_names.proofs.Equations.{uses-var, uses-element, uses-one, uses-two, uses-assign, uses-set, uses-print, uses-if, uses-while}
 use Rattle.src_names.proofs.Uses.{as_var, as_array, right_expr, right_stmt, right_body, wrong_here, wrong_left, wrong_right}
 
 module _ (es : List Entry) where

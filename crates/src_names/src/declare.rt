@@ -65,10 +65,10 @@ fn declare(names: &mut Names, earlier: &[Decl], decl: &Decl) -> Result<(), NameF
     let Ident { text, at } = name(decl);
     match names.add(text.as_slice(), kind(decl)) {
         Ok(_) => Ok(()),
-        Err(NamesFault::Twice { first }) => Err(NameFault::Twice {
-            at: *at,
-            first: name(&earlier[first as usize]).at,
-        }),
+        Err(NamesFault::Twice { first }) => {
+            let first = name(&earlier[first as usize]).at;
+            Err(NameFault::Twice { at: *at, first })
+        }
         Err(NamesFault::Size) => Err(NameFault::ArraySize {
             at: *at,
             n: size(decl),

@@ -23,12 +23,14 @@ fn printed(alloc: Global, value: Expr) -> Result<Program, AllocError>
 fn a_tree_is_named(rt: HostRuntime) -> Result<(), AllocError> {
     let program = printed(rt.alloc(), Expr::Number { value: 7 })?;
     let resolved = resolve(rt.alloc(), &program).ok();
-    assert!(rt; matches!(
-        resolved.as_ref().map(|r| r.body()),
-        Some([RStmt::Print {
-            value: RExpr::Number { value: 7 },
-        }])
-    ));
+    assert!(rt;
+        matches!(
+            resolved.as_ref().map(|r| r.body()),
+            Some([RStmt::Print {
+                value: RExpr::Number { value: 7 },
+            }])
+        )
+    );
     Ok(())
 }
 

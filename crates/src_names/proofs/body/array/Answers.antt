@@ -1,4 +1,4 @@
-use Rattle.std.proofs.Common.{◌≡◌, Some, None, refl, sym, ◌∙◌}
+use Rattle.std.proofs.Common.{◌≡◌, Some, None, sym, ◌∙◌}
 use Rattle.bm_base.specs.declared.names.Kind.TheVariants as k
 use Rattle.bm_base.specs.Names.{place_of}
 use Rattle.src_names.specs.Fault as t
@@ -22,8 +22,8 @@ pub returns-in-Var-clause-err : goal.returns-in-Var-clause-err
 returns-in-Var-clause-err c =
     let placed : place_of c.args.name.now.text c.args.names.now ≡ Some c.in-Some.id = rw c.as_slice.ensures at (sym c.find.ensures.number ∙ c.in-Some.is) in
     t.not_array
-      (record {
-        id = c.in-Some.id;
-        initial = c.in-Var.initial;
-        here = found c.args.name.now.text c.args.names.now c.in-Some.id (k.Var c.in-Var.initial) placed (rw c.in-Var.is at c.kind.ensures);
-      })
+    (record {
+      id = c.in-Some.id;
+      initial = c.in-Var.initial;
+      here = found c.args.name.now.text c.args.names.now c.in-Some.id (k.Var c.in-Var.initial) placed (rw c.in-Var.is at c.kind.ensures);
+    })

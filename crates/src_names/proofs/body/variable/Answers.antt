@@ -1,4 +1,4 @@
-use Rattle.std.proofs.Common.{◌≡◌, Some, None, refl, sym, ◌∙◌}
+use Rattle.std.proofs.Common.{◌≡◌, Some, None, sym, ◌∙◌}
 use Rattle.bm_base.specs.declared.names.Kind.TheVariants as k
 use Rattle.bm_base.specs.Names.{place_of}
 use Rattle.src_names.specs.Fault as t
@@ -22,8 +22,8 @@ pub returns-in-Array-clause-err : goal.returns-in-Array-clause-err
 returns-in-Array-clause-err c =
     let placed : place_of c.args.name.now.text c.args.names.now ≡ Some c.in-Some.id = rw c.as_slice.ensures at (sym c.find.ensures.number ∙ c.in-Some.is) in
     t.not_variable
-      (record {
-        id = c.in-Some.id;
-        len = c.in-Array.len;
-        here = found c.args.name.now.text c.args.names.now c.in-Some.id (k.Array c.in-Array.len) placed (rw c.in-Array.is at c.kind.ensures);
-      })
+    (record {
+      id = c.in-Some.id;
+      len = c.in-Array.len;
+      here = found c.args.name.now.text c.args.names.now c.in-Some.id (k.Array c.in-Array.len) placed (rw c.in-Array.is at c.kind.ensures);
+    })

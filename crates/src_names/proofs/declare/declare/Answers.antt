@@ -1,10 +1,9 @@
-use Rattle.std.proofs.Common.{◌≡◌, ◌<◌, length, None, Some, Ok, Err, refl, ap, ◌∙◌, arith, rules, w64}
-use Rattle.std.specs.Prelude.{slice_get, ◌⊎◌}
+use Rattle.std.proofs.Common.{◌≡◌, ◌<◌, length, Some, Ok, Err, refl, ap, ◌∙◌, arith, rules, w64}
+use Rattle.std.specs.Prelude.{slice_get}
 use Rattle.std.proofs.lemmas.Int.{to_z-of_z}
 use mir.Val.{SFits}
 use Rattle.std.proofs.lemmas.Option.{slice_get_read}
 use Rattle.bm_base.specs.declared.names.NamesFault.TheVariants as b
-use Rattle.bm_base.specs.Names.{place_of, adding}
 use Rattle.src_names.specs.Declarations.{name_of}
 use Rattle.src_names.specs.Adding.{kind_of}
 use Rattle.src_names.proofs.Find.{within}
@@ -54,8 +53,8 @@ returns-in-Err-Twice-clause-err c = λ _.
     let below : c.in-Err-Twice.first < length c.args.earlier.now = omega (arith, within (name_of c.args.decl.now).text c.args.names.now c.in-Err-Twice.first place) in
     let here : slice_get c.args.earlier.now c.in-Err-Twice.first ≡ Some c.index-earlier-first.result = slice_get_read c.args.earlier.now (length c.args.earlier.now) c.in-Err-Twice.first c.index-earlier-first.result refl below c.index-earlier-first.is in
     twice_fault c.args.earlier.now c.args.names.now c.args.decl.now c.name.result.now.at c.name-in-Err-Twice.result.now.at
-      (ap (λ n. n.at) c.name.ensures)
-      (declared_at c.requires.declared (name_of c.args.decl.now) c.in-Err-Twice.first c.name-in-Err-Twice.result.now.at c.index-earlier-first.result place here (ap (λ n. n.at) c.name-in-Err-Twice.ensures))
+    (ap (λ n. n.at) c.name.ensures)
+    (declared_at c.requires.declared (name_of c.args.decl.now) c.in-Err-Twice.first c.name-in-Err-Twice.result.now.at c.index-earlier-first.result place here (ap (λ n. n.at) c.name-in-Err-Twice.ensures))
 
 pub returns-in-Err-Size-clause-err : goal.returns-in-Err-Size-clause-err
 returns-in-Err-Size-clause-err c = λ _.

@@ -1,4 +1,4 @@
-use Rattle.std.proofs.Common.{◌≡◌, ◌<◌, ◌≤◌, length, take, length-take, arith}
+use Rattle.std.proofs.Common.{◌≡◌, length, take, length-take, arith}
 use Rattle.src_names.specs.Declarations as n
 use Rattle.src_names.proofs.Declaring.{length_declared, first_fault, one_more, nothing}
 use Rattle.src_names.proofs.declare.declare_all.Goals as goal

@@ -1,5 +1,5 @@
 use Rattle.src_names.specs.Fault as t
-use Rattle.src_names.proofs.Whole.{body_fault, is_named, is_right}
+use Rattle.src_names.proofs.Whole.{body_fault, is_right}
 use Rattle.src_names.proofs.naming.name_program.Goals as goal
 
 pub returns-in-Err-clause-err : goal.returns-in-Err-clause-err

@@ -1,4 +1,4 @@
-use Rattle.std.proofs.Common.{◌≡◌, ◌<◌, length, arith}
+use Rattle.std.proofs.Common.{◌<◌, length, arith}
 use Rattle.src_names.specs.Fault as t
 use Rattle.src_names.proofs.First.{no_fault}
 use Rattle.src_names.proofs.Whole.{only, only_fault}

@@ -1,0 +1,5 @@
+pub mod Plain
+pub mod Chain
+pub mod Counts
+pub mod Nodes
+pub mod Once
