@@ -1,5 +1,5 @@
 -- Evaluations one after another.
-use Rattle.std.proofs.Common.{◌≡◌, ℕ, ℤ, List, [], ◌∷◌, ◌++◌, Bool, Result, Ok, Err, refl, ap, sym, ◌∙◌, subst}
+use Rattle.std.proofs.Common.{◌≡◌, ℕ, ℤ, List, Bool, Result, Ok, Err, refl, ap, sym, ◌∙◌, subst}
 use Rattle.bm_base.specs.Memory.{Content}
 use Rattle.bm_io.specs.declared.sinks.SinkFault.{SinkFault}
 use Rattle.bm_io.specs.declared.sinks.SinkFault.TheVariants.{Failed}

@@ -1,5 +1,5 @@
 -- Induction over statements, by the cases of the source.
-use Rattle.std.proofs.Common.{◌≡◌, ℕ, List, [], ◌∷◌, map, refl, ap, sym, ◌∙◌, subst}
+use Rattle.std.proofs.Common.{ℕ, List, [], ◌∷◌, map, sym, subst}
 use Rattle.src_names.specs.declared.resolved.RExpr.{RExpr}
 use Rattle.src_names.specs.declared.resolved.RStmt.{RStmt, RStmt-F, roll-RStmt, map-RStmt}
 use Rattle.src_names.specs.declared.resolved.RStmt.TheFolds.{ind-RStmt}

@@ -1,17 +1,16 @@
 -- Each statement spends turns, and grows with one turn more.
-use Rattle.std.proofs.Common.{◌≡◌, ℕ, zero, suc, ◌≤◌, ◌+◌, ◌-◌, ℤ, List, [], ◌∷◌, map, refl, ap, sym, ◌∙◌, subst, arith}
+use Rattle.std.proofs.Common.{◌≡◌, ℕ, zero, suc, ◌≤◌, ◌+◌, ◌-◌, List, [], ◌∷◌, map, refl, sym, subst, arith}
 use Rattle.bm_base.specs.Memory.{Content, set_variable, set_element}
 use Rattle.src_names.specs.RProgram.{RProgram}
 use Rattle.src_names.specs.declared.resolved.RExpr.{RExpr}
 use Rattle.src_names.specs.declared.resolved.RStmt.{RStmt, RStmt-F}
-use Rattle.src_names.specs.declared.resolved.RStmt.TheVariants as s
-use Rattle.src_meaning.specs.declared.evaluate.End.TheVariants.{Done, More}
-use Rattle.src_meaning.specs.Meaning.{Outcome, Action, done, behind, is_zero, value_of, in_order, while_loop, statement, statement_step, statements, meaning}
+use Rattle.src_meaning.specs.declared.evaluate.End.TheVariants.{Done}
+use Rattle.src_meaning.specs.Meaning.{Outcome, Action, done, is_zero, value_of, in_order, statement, statement_step, statements, meaning}
 use Rattle.src_meaning.specs.Laws.{Prints, IsDoneAs}
 use Rattle.src_meaning.proofs.Equations.{statement-assign, statement-set, statement-print, statement-if, statement-while}
 use Rattle.src_meaning.proofs.Induct.{Each, Cases, induct_all, none as each_none, more as each_more}
 use Rattle.src_meaning.proofs.Turns.{Spends, AllSpend, spends_in_order, spends_if, spends_loop, none as spend_none, more as spend_more}
-use Rattle.src_meaning.proofs.Growing.{Grows, GrowsTo, AllGrow, grows-done, grows-behind, grows-if, grows_in_order, grows_while, none as grow_none, more as grow_more}
+use Rattle.src_meaning.proofs.Growing.{GrowsTo, AllGrow, grows-done, grows-behind, grows-if, grows_in_order, grows_while, none as grow_none, more as grow_more}
 
 -- what holds of the action of each statement
 pub record IsLawful (a : Action) : Type 0 where

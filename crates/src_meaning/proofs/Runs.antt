@@ -1,8 +1,7 @@
 -- Statements that were run.
-use Rattle.std.proofs.Common.{◌≡◌, ℕ, zero, suc, ◌<◌, ◌≤◌, ◌+◌, ◌-◌, ℤ, pos, List, [], ◌∷◌, ◌++◌, Bool, true, false, map, drop, length, get_or, Result, Ok, Err, refl, ap, sym, ◌∙◌, subst, arith, w64, of_z, to_z, FitsSigned}
+use Rattle.std.proofs.Common.{◌≡◌, ℕ, zero, suc, ◌<◌, ◌≤◌, ◌+◌, ℤ, pos, List, [], ◌∷◌, Bool, true, false, drop, length, get_or, Result, Ok, Err, refl, ap, sym, ◌∙◌, subst, arith, w64, of_z, to_z, FitsSigned}
 use Rattle.std.proofs.lemmas.Int.{to_z-of_z}
-use Rattle.std.specs.Prelude.{OnOk, IfErr, IsOk, IsTrue}
-use Rattle.std.specs.Ordering.{int_eq}
+use Rattle.std.specs.Prelude.{IsOk, IsTrue}
 use Rattle.std.specs.Bool.{Decides}
 use Rattle.std.proofs.lemmas.Bool.Decides.{Decides-int_eq}
 use Rattle.std.proofs.lemmas.List.{drop_more}
@@ -17,7 +16,7 @@ use Rattle.src_names.specs.declared.resolved.RStmt.{RStmt}
 use Rattle.src_names.specs.declared.resolved.RStmt.TheVariants as s
 use Rattle.src_meaning.specs.declared.evaluate.End.{End}
 use Rattle.src_meaning.specs.declared.evaluate.End.TheVariants.{Done, More}
-use Rattle.src_meaning.specs.Meaning.{Outcome, Action, done, stopped, behind, and_then, in_order, is_zero, value_of, statement, statements, while_loop}
+use Rattle.src_meaning.specs.Meaning.{Outcome, done, stopped, behind, and_then, is_zero, value_of, statement, statements, while_loop}
 use Rattle.src_meaning.specs.Evaluates.{View, seen, Evaluates}
 use Rattle.src_meaning.proofs.Equations.{statement-assign, statement-set, statement-print, statement-if, statement-while}
 use Rattle.src_meaning.proofs.Kept.{IsMemoryOf-set_variable, IsMemoryOf-set_element}

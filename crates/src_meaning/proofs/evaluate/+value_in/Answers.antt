@@ -1,5 +1,4 @@
-use Rattle.std.proofs.Common.{rules, ◌∙◌, ap, w64, FitsSigned}
-use Rattle.src_meaning.specs.Meaning.{value_of}
+use Rattle.std.proofs.Common.{rules}
 use Rattle.src_meaning.proofs.Suits.{suits-var, suits-array}
 use Rattle.src_meaning.proofs.Valued.{element_value, one_value, two_value}
 use Rattle.src_meaning.proofs.evaluate.+value_in.Goals as goal

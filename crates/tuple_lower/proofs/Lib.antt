@@ -1,0 +1,6 @@
+pub mod Does
+pub mod Equations
+pub mod ExprInduct
+pub mod Gives
+pub mod Serially
+pub mod Soundness
