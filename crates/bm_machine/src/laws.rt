@@ -1,5 +1,8 @@
 // What a core asks, block by block.
-ghost use Rattle.std.specs.Prelude.{◌≡◌, ◌<◌, ◌≤◌, ℕ, length};
+ghost use Rattle.std.specs.Prelude.{◌≡◌, ◌<◌, ◌≤◌, ℕ, List, length};
+ghost use Rattle.bm_base.specs.Entry.{Entry};
+ghost use Rattle.bm_base.specs.Memory.{initial};
+ghost use Rattle.tuple_ir.specs.Memories.{IsMemoryOf};
 ghost use Rattle.unit_law.specs.State.{Program, code_at};
 ghost use Rattle.bm_machine.specs.Core.{IsCore, IsLined};
 ghost use Rattle.bm_machine.specs.Examples.{sum_program, falling_program};
@@ -17,4 +20,9 @@ pub fn cores_keep_each_block()
 pub fn worked_cores()
     ensures sum { IsCore sum_program }
     ensures falling { IsCore falling_program }
+{}
+
+/// The memory that names have at first is one of these names, so a machine may begin from it.
+pub fn first_memories()
+    ensures { (names : List Entry) → IsMemoryOf names (initial names) }
 {}

@@ -8,7 +8,7 @@ ghost use Rattle.unit_law.specs.Units.{first_from};
 ghost use Rattle.unit_law.specs.Steps.{Action, Advance, Branch, Enter, May, NoneDue, NoneStarts, after, least_tick, target};
 ghost use Rattle.unit_law.specs.OnUnit.{answer_at, answers_lawfully};
 ghost use Rattle.unit_law.specs.Canonical.{can_start, due_finish, block_branch, next_to};
-ghost use Rattle.bm_machine.specs.Shown.{HasCounts};
+ghost use Rattle.bm_machine.specs.Shown.{HasKinds, HasCounts};
 ghost use Rattle.bm_machine.specs.Next.{Takes, StandsFor, tells, is_at, printed_by, event_clock, is_last, goes_on, left_in, still};
 ghost use Rattle.bm_machine.specs.Moves.{Stands, Starts, Finishes, fires, branches, Answers};
 
@@ -100,9 +100,10 @@ impl<'a, U: BarrierUnit, T: Timing> Machine<'a, U, T> {
         })
     }
 
-    /// The memory.
+    /// The memory. It holds each declared name as its kind asks.
     pub fn store(&self) -> &Store
-        ensures { result.now ≡ self.now.state.world.memory }
+        ensures value { result.now ≡ self.now.state.world.memory }
+        ensures kinds { HasKinds self.now.program.names result.now }
     {
         &self.store
     }
