@@ -271,7 +271,7 @@ module _ (src : List ℕ) where
   inner_expr (g.name i) = inner_one i refl
   inner_expr (g.element {t = t} {o = o} {c = c} {ts = ts} i j h k) =
       inner_append {ts = t ∷ []} {us = o ∷ (ts ++ c ∷ [])} (inner_one i refl)
-        (inner_append {ts = o ∷ []} {us = ts ++ c ∷ []} (inner_one j refl) (inner_append (inner_expr h) (inner_one k refl)))
+      (inner_append {ts = o ∷ []} {us = ts ++ c ∷ []} (inner_one j refl) (inner_append (inner_expr h) (inner_one k refl)))
   inner_expr (g.paren {o = o} {c = c} {ts = ts} j h k) =
       inner_append {ts = o ∷ []} {us = ts ++ c ∷ []} (inner_one j refl) (inner_append (inner_expr h) (inner_one k refl))
   inner_expr (g.one {t = t} {x = x} {op = op} {ts = ts} i e h) =
@@ -365,8 +365,8 @@ module _ (src : List ℕ) where
           let r : whole ≡ pre ++ ((t ∷ o ∷ (ts ++ (c ∷ m ∷ us))) ++ (f ∷ post)) = e ∙ ap (λ w. pre ++ (t ∷ o ∷ w)) rest in
           let back : Inner (c ∷ m ∷ us) = inner_append {ts = c ∷ []} {us = m ∷ us} (inner_one k refl) (inner_append {ts = m ∷ []} {us = us} (inner_one l refl) (inner_expr p)) in
           let inner : Inner (t ∷ o ∷ (ts ++ (c ∷ m ∷ us))) =
-              inner_append {ts = t ∷ []} {us = o ∷ (ts ++ (c ∷ m ∷ us))} (inner_one i refl)
-                (inner_append {ts = o ∷ []} {us = ts ++ (c ∷ m ∷ us)} (inner_one j refl) (inner_append {ts = ts} {us = c ∷ m ∷ us} (inner_expr h) back))
+          inner_append {ts = t ∷ []} {us = o ∷ (ts ++ (c ∷ m ∷ us))} (inner_one i refl)
+          (inner_append {ts = o ∷ []} {us = ts ++ (c ∷ m ∷ us)} (inner_one j refl) (inner_append {ts = ts} {us = c ∷ m ∷ us} (inner_expr h) back))
           in
           let few = segment pre (t ∷ o ∷ (ts ++ (c ∷ m ∷ us))) (f ∷ post) r cur inner in
           let w = widest-set (g.ident src t) v x in
