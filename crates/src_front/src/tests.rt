@@ -26,13 +26,35 @@ fn names_are_refused_at_their_places(rt: HostRuntime) {
         ("array A[2]; print A;", NameFault::NotScalar { at: 18 }),
         ("array A[2]; A = z;", NameFault::NotScalar { at: 12 }),
         ("array A[0];", NameFault::ArraySize { at: 6, n: 0 }),
-        ("array A[1048577];", NameFault::ArraySize { at: 6, n: 1_048_577 }),
-        ("array A[4294967297];", NameFault::ArraySize { at: 6, n: 4_294_967_297 }),
-        ("array A[1048576]; array B[1];", NameFault::ArraySize { at: 24, n: 1 }),
+        (
+            "array A[1048577];",
+            NameFault::ArraySize {
+                at: 6,
+                n: 1_048_577,
+            },
+        ),
+        (
+            "array A[4294967297];",
+            NameFault::ArraySize {
+                at: 6,
+                n: 4_294_967_297,
+            },
+        ),
+        (
+            "array A[1048576]; array B[1];",
+            NameFault::ArraySize { at: 24, n: 1 },
+        ),
         ("array A[0]; print x;", NameFault::ArraySize { at: 6, n: 0 }),
-        ("while 1 { if 2 { } else { a = b; } }", NameFault::Unknown { at: 26 }),
+        (
+            "while 1 { if 2 { } else { a = b; } }",
+            NameFault::Unknown { at: 26 },
+        ),
     ] {
-        assert_eq!(rt; fault(rt.alloc(), text), Some(SourceFault::Names(want)), "of {text}");
+        assert_eq!(rt;
+            fault(rt.alloc(), text),
+            Some(SourceFault::Names(want)),
+            "of {text}"
+        );
     }
 }
 
@@ -82,13 +104,11 @@ fn a_text_is_read(rt: HostRuntime) -> Result<(), AllocError> {
         return Err(AllocError);
     };
     assert_eq!(rt; program.names().len(), 2);
-    assert!(rt; matches!(
-        program.body(),
-        [
-            RStmt::While { .. },
-            RStmt::If { .. },
-            RStmt::Print { .. },
-        ]
-    ));
+    assert!(rt;
+        matches!(
+            program.body(),
+            [RStmt::While { .. }, RStmt::If { .. }, RStmt::Print { .. },]
+        )
+    );
     Ok(())
 }
