@@ -1,6 +1,6 @@
 -- What the layers' answers say of a text.
 use Rattle.std.proofs.Common.{◌≡◌, ◌≢◌, ◌⊎◌, inl, inr, ℕ, List, [], ◌∷◌, Result, Ok, Err, refl, ap, sym, ◌∙◌, subst}
-use Rattle.std.specs.Prelude.{IfErr, MatchResult, IsErr, IsErrAnd}
+use Rattle.std.specs.Prelude.{IsErr, IsErrAnd}
 use Rattle.bm_base.specs.Entry.{Entry}
 use Rattle.src_lexer.specs.declared.token.Token.{Token}
 use Rattle.src_lexer.specs.declared.fault.LexFault.{LexFault}
@@ -20,7 +20,7 @@ use Rattle.src_names.specs.Named.{IsNamed}
 use Rattle.src_names.specs.Fault.{UseFault, DeclFault, Faults as FaultsOfNames}
 use Rattle.src_names.specs.Fault as t
 use Rattle.src_front.specs.declared.fault.SourceFault.{SourceFault}
-use Rattle.src_front.specs.declared.fault.SourceFault.TheVariants.{Lex, Parse, Names, Memory}
+use Rattle.src_front.specs.declared.fault.SourceFault.TheVariants.{Parse, Names, Memory}
 use Rattle.src_front.specs.Lifted.{of_lexer, of_parser, of_names}
 use Rattle.src_front.specs.Reads.{IsText, IsTree, Reads, FirstFault}
 use Rattle.src_front.specs.Reads as r

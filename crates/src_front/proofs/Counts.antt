@@ -1,14 +1,14 @@
 -- A resolved program has as many statements as its tree.
-use Rattle.std.proofs.Common.{◌≡◌, ℕ, ◌+◌, List, [], ◌∷◌, map, refl, ap, sym, ◌∙◌}
+use Rattle.std.proofs.Common.{◌≡◌, ℕ, ◌+◌, List, refl, ap, sym, ◌∙◌}
 use Rattle.bm_base.specs.Entry.{Entry}
 use Rattle.src_tree.specs.declared.tree.Ident.{Ident}
 use Rattle.src_tree.specs.declared.tree.Expr.{Expr}
-use Rattle.src_tree.specs.declared.tree.Stmt.{Stmt, Stmt-F}
+use Rattle.src_tree.specs.declared.tree.Stmt.{Stmt}
 use Rattle.src_tree.specs.declared.tree.Stmt.TheFolds.{fold-roll-Stmt}
 use Rattle.src_tree.specs.declared.tree.Stmt.TheVariants as s
 use Rattle.src_parser.specs.Statements as t
 use Rattle.src_names.specs.declared.resolved.RExpr.{RExpr}
-use Rattle.src_names.specs.declared.resolved.RStmt.{RStmt, RStmt-F}
+use Rattle.src_names.specs.declared.resolved.RStmt.{RStmt}
 use Rattle.src_names.specs.declared.resolved.RStmt.TheFolds.{fold-roll-RStmt}
 use Rattle.src_names.specs.declared.resolved.RStmt.TheVariants as rs
 use Rattle.src_names.specs.Named.{NamedStmt, NamedBody}

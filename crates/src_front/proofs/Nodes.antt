@@ -1,5 +1,5 @@
 -- A statement of a program within the limits has at most 120 nodes: they are nodes of the tokens behind the last border before them.
-use Rattle.std.proofs.Common.{◌≡◌, ℕ, suc, ◌+◌, ◌≤◌, ◌<◌, ℤ, Bool, true, false, cond, List, [], ◌∷◌, ◌++◌, length, map, max, Some, refl, ap, sym, ◌∙◌, subst, arith, append_assoc}
+use Rattle.std.proofs.Common.{◌≡◌, ℕ, ◌+◌, ◌≤◌, ℤ, true, false, List, [], ◌∷◌, ◌++◌, map, max, Some, refl, ap, sym, ◌∙◌, subst, arith, append_assoc}
 use Rattle.std.specs.Prelude.{if◌then◌else◌}
 use Rattle.std.proofs.lemmas.List.{append-nil}
 use Rattle.bm_base.specs.Entry.{Entry}
@@ -8,7 +8,7 @@ use Rattle.bm_base.specs.declared.word.Bin.{Bin}
 use Rattle.src_lexer.specs.declared.token.Symbol.{Symbol}
 use Rattle.src_lexer.specs.declared.token.Symbol.TheVariants as y
 use Rattle.src_lexer.specs.declared.token.TokenKind.{TokenKind}
-use Rattle.src_lexer.specs.declared.token.TokenKind.TheVariants.{Name, Number, Word, Sym}
+use Rattle.src_lexer.specs.declared.token.TokenKind.TheVariants.{Sym}
 use Rattle.src_lexer.specs.declared.token.Token.{Token}
 use Rattle.src_tree.specs.declared.tree.Ident.{Ident}
 use Rattle.src_tree.specs.declared.tree.Expr.{Expr, Expr-F}
@@ -22,12 +22,11 @@ use Rattle.src_tree.specs.declared.tree.Program.{Program}
 use Rattle.src_tree.specs.Operators.{binary, unary}
 use Rattle.src_tree.specs.Grammar.{Is, IsExpr, IsStmt, IsBlock, IsElse, IsBody, IsDecl, AreDecls, Derives}
 use Rattle.src_tree.specs.Grammar as g
-use Rattle.src_tree.specs.Limits.{is_border, current, current_from, node, nodes_in, behind_first, nodes, KeepsLimits}
-use Rattle.src_names.specs.declared.resolved.RExpr.{RExpr, RExpr-F}
+use Rattle.src_tree.specs.Limits.{is_border, current, current_from, node, nodes_in, behind_first, KeepsLimits}
+use Rattle.src_names.specs.declared.resolved.RExpr.{RExpr}
 use Rattle.src_names.specs.declared.resolved.RExpr.TheFolds.{fold-roll-RExpr}
 use Rattle.src_names.specs.declared.resolved.RExpr.TheVariants as re
 use Rattle.src_names.specs.declared.resolved.RStmt.{RStmt}
-use Rattle.src_names.specs.RProgram.{RProgram}
 use Rattle.src_names.specs.Named.{IsVar, IsArray, NamedExpr, NamedStmt, NamedBody, IsNamed}
 use Rattle.src_names.specs.Named as n
 use Rattle.src_names.specs.Sizes.{nodes_step, FewNodes, AllFewNodes}

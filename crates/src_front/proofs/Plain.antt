@@ -1,6 +1,5 @@
 -- The declarations of a derived tree are named well.
-use Rattle.std.proofs.Common.{◌≡◌, ℕ, zero, suc, ◌<◌, ◌≤◌, ℤ, pos, negsuc, List, [], ◌∷◌, length, arith}
-use Rattle.std.specs.Prelude.{◌≤ℤ◌, All}
+use Rattle.std.proofs.Common.{zero, suc, pos, negsuc, List, [], ◌∷◌, arith}
 use Rattle.std.proofs.lemmas.Int.{ints}
 use Rattle.src_tree.specs.declared.tree.Decl.{Decl}
 use Rattle.src_tree.specs.declared.tree.Decl.TheVariants as d

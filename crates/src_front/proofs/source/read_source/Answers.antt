@@ -1,10 +1,9 @@
-use Rattle.std.proofs.Common.{◌≡◌, ◌≤◌, length, Err, ap, sym, ◌∙◌, arith}
-use Rattle.src_tree.specs.declared.tree.Program.{Program}
+use Rattle.std.proofs.Common.{◌≡◌, Err, ◌∙◌, arith}
 use Rattle.src_front.specs.Lifted.{of_lexer, of_parser, of_names}
 use Rattle.src_front.proofs.Plain.{are_named_well}
 use Rattle.src_front.proofs.Counts.{count_body}
 use Rattle.src_front.proofs.Nodes.{few_nodes}
-use Rattle.src_front.proofs.Chain.{err_is, lex_fault, IsOneText, IsOneTree, parse_only, parse_fault, parse_only_fault, names_fault, names_only, program_only, names_only_fault, no_fault, is_tree}
+use Rattle.src_front.proofs.Chain.{err_is, lex_fault, IsOneText, IsOneTree, parse_only, parse_fault, parse_only_fault, names_fault, names_only, program_only, names_only_fault, no_fault}
 use Rattle.src_front.proofs.source.read_source.Goals as goal
 
 pub returns-in_err-tokens-clause-fault : goal.returns-in_err-tokens-clause-fault
