@@ -1,6 +1,0 @@
-pub mod Does
-pub mod Equations
-pub mod ExprInduct
-pub mod Gives
-pub mod Serially
-pub mod Soundness

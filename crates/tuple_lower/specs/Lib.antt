@@ -1,4 +1,0 @@
-pub mod Lowered
-pub mod Lowers
-pub mod Sound
-pub mod Straight
