@@ -1,15 +1,2 @@
-pub mod Complete
-pub mod Sound
-pub mod Running
-pub mod Reading
-pub mod MemoryLines
-pub mod Means
-pub mod Spoken
-pub mod Pieces
-pub mod Coming
-pub mod Writing
-pub mod Shortness
-pub mod Concluding
-pub mod Reporting
-pub mod Statuses
-pub mod Causes
+pub mod Rows
+pub mod Evaluating

@@ -1,43 +1,37 @@
 //! The top call: from the words of a command line to the bytes that it writes.
 //!
-//! `specs/` has the meaning. `Source` is the grammar of the programs that are built so far, `Meaning` what they
-//! mean, `Lowered` their tuples, `Text` what a run writes; `Command` has the rows of the command table, each a
-//! course of files to read and of what comes of their contents (`Course`), and `Goes` every way a call may go.
+//! `specs/Command.antt` says what each row of the command table comes to: a course of files to read and of what
+//! comes of their contents. `Evaluation` has what `eval` writes, `Running` what a program is compiled to and its run.
 #![tactic(auto)]
 
-ghost use Rattle.std.specs.Prelude.{◌≡◌, ◌⊎◌, None, map};
+ghost use Rattle.std.specs.Prelude.{◌≡◌, None, map};
 ghost use Rattle.std.specs.String.{string_bytes};
-ghost use Rattle.bm_io.specs.Causes.{Rose};
-ghost use Rattle.bmimd_top.specs.Command.{request_of, course_of};
-ghost use Rattle.bmimd_top.specs.Clauses.{IsUsage, WritesRun, RefusesOthers, HasRun, IsNotBuilt, IsUnread, IsStatus};
-ghost use Rattle.bmimd_top.specs.Ends.{Concludes};
-ghost use Rattle.bmimd_top.specs.Goes.{Goes, seen};
+ghost use Rattle.bm_course.specs.Ends.{Concludes};
+ghost use Rattle.bm_course.specs.Goes.{Goes, seen};
+ghost use Rattle.bm_course.specs.Answers.{Answers};
+ghost use Rattle.bm_words.specs.Table.{request_of};
+ghost use Rattle.bmimd_top.specs.Command.{course_of};
+ghost use Rattle.bmimd_top.specs.Clauses.{IsUsage};
 
-mod command;
-mod ending;
+mod eval;
 mod go;
-mod mode;
-mod read;
-mod reader;
-mod report;
-mod runner;
 
+use bm_course::{Refusal, Stop, report};
 use bm_io::{Files, Sink};
-use command::match_words;
-use report::{Refusal, Stop, report};
-use src_lexer::text_has_one_spelling;
+use bm_words::{Command, match_words};
 use std::alloc::Global;
 
-/// How a call of the program ends: 0 the run has ended, 1 usage, 8 it is still going, 9 a file cannot be read,
-/// 10 a write failed, 11 there is no memory, 12 the program is of a kind that is not built.
+/// How a call of the program ends: 0 it has ended or is done, 1 usage, 2 the source is no program, 3 a limit is
+/// passed, 4 the machine file is none, 8 it is still going, 9 a file cannot be read, 10 a write failed, 11 there is
+/// no memory, 12 the program is of a kind that is not built.
 #[derive(Clone, Copy, Debug, PartialEq, Eq)]
 pub struct Status {
     pub code: u8,
 }
 
-/// Does what the words ask for: `go PROG default sbm least none BUDGET` runs the program of the file PROG on one
-/// processor with the least times of the default machine, for BUDGET ticks, and writes its text to `out`. The line
-/// of a refusal goes to `err`.
+/// Does what the words ask for: `eval PROG none TURNS` evaluates the source of the file PROG for at most TURNS turns
+/// of its loops; `go PROG MACH sbm SCRIPT none BUDGET` runs it on the machine MACH (`default`, or `file:NAME`) with the
+/// durations of SCRIPT (`least` or `most`), for BUDGET ticks. The text goes to `out`, and the line of a refusal to `err`.
 pub fn bmimd<F: Files, O: Sink, E: Sink>(
     alloc: Global,
     words: &[String],
@@ -45,36 +39,20 @@ pub fn bmimd<F: Files, O: Sink, E: Sink>(
     out: &mut O,
     err: &mut E,
 ) -> Status
-    // What is read, what is written and the status are what the words and the contents come to.
-    ensures goes { Goes (F.held files.old) (seen F.asked F.faults O.taken O.faults E.taken E.faults files.old out.old err.old)
+    // What is read, what is written and the status are what the words and the contents come to; each status has its
+    // cause; what the held files lead to is written or refused.
+    ensures answers { Answers (F.held files.old) (seen F.asked F.faults O.taken O.faults E.taken E.faults files.old out.old err.old)
         (seen F.asked F.faults O.taken O.faults E.taken E.faults files.new out.new err.new)
         (course_of (map string_bytes words.now)) result.code }
 
     // No held file changes.
     ensures held { F.held files.new ≡ F.held files.old }
 
-    // Where the file holds a program, its run is written, and where it holds none, this is not built.
-    ensures program { WritesRun (F.held files.old) (seen F.asked F.faults O.taken O.faults E.taken E.faults files.old out.old err.old)
-        (seen F.asked F.faults O.taken O.faults E.taken E.faults files.new out.new err.new) (request_of (map string_bytes words.now)) result.code }
-    ensures others { RefusesOthers (F.held files.old) (seen F.asked F.faults O.taken O.faults E.taken E.faults files.old out.old err.old)
-        (seen F.asked F.faults O.taken O.faults E.taken E.faults files.new out.new err.new) (request_of (map string_bytes words.now)) result.code }
-
     // Usage comes exactly where the words match no row.
     ensures usage { result.code ≡ 1 → request_of (map string_bytes words.now) ≡ None }
     ensures unmatched { request_of (map string_bytes words.now) ≡ None → IsUsage (seen F.asked F.faults O.taken O.faults E.taken E.faults files.old out.old err.old)
         (seen F.asked F.faults O.taken O.faults E.taken E.faults files.new out.new err.new) result.code }
-
-    // Each other status has its cause.
-    ensures ended { (result.code ≡ 0) ⊎ (result.code ≡ 8) → HasRun (F.held files.old) (seen F.asked F.faults O.taken O.faults E.taken E.faults files.old out.old err.old)
-        (seen F.asked F.faults O.taken O.faults E.taken E.faults files.new out.new err.new) (request_of (map string_bytes words.now)) result.code }
-    ensures not_built { result.code ≡ 12 → IsNotBuilt (F.held files.old) (seen F.asked F.faults O.taken O.faults E.taken E.faults files.old out.old err.old)
-        (seen F.asked F.faults O.taken O.faults E.taken E.faults files.new out.new err.new) (request_of (map string_bytes words.now)) result.code }
-    ensures read_fault { result.code ≡ 9 → IsUnread (seen F.asked F.faults O.taken O.faults E.taken E.faults files.old out.old err.old)
-        (seen F.asked F.faults O.taken O.faults E.taken E.faults files.new out.new err.new) (request_of (map string_bytes words.now)) }
-    ensures write_fault { result.code ≡ 10 → Rose (O.faults out.old) (O.faults out.new) ⊎ Rose (E.faults err.old) (E.faults err.new) }
-    ensures status { IsStatus result.code }
 {
-    text_has_one_spelling();
     call(alloc, words, files, out, err)
 }
 
@@ -115,7 +93,15 @@ fn serve<'a, F: Files, O: Sink>(
 {
     match match_words(words) {
         None => Err(Stop::Refused(Refusal::Usage)),
-        Some(command) => go::go(alloc, command.program, command.budget, files, out),
+        Some(Command::Eval { program, turns }) => eval::evaluate(alloc, program, turns, files, out),
+        Some(
+            Command::Go {
+                program,
+                machine,
+                script,
+                budget,
+            },
+        ) => go::go(alloc, program, machine, script, budget, files, out),
     }
 }
 

@@ -1,4 +1,4 @@
-use Rattle.bmimd_top.proofs.Reporting.{Goes-done, Goes-stopped}
+use Rattle.bm_course.proofs.Ended.{Goes-done, Goes-stopped}
 use Rattle.bmimd_top.proofs.call.Goals as goal
 
 pub returns-in-Ok-clause-goes : goal.returns-in-Ok-clause-goes

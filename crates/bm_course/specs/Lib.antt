@@ -1,0 +1,10 @@
+pub mod Course
+pub mod Lines
+pub mod Refusals
+pub mod Limited
+pub mod Ends
+pub mod Goes
+pub mod Clauses
+pub mod Laws
+pub mod Answers
+pub mod Sends

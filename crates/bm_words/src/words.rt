@@ -1,0 +1,72 @@
+// Single words.
+ghost use Rattle.std.specs.Prelude.{◌≡◌, ◌≤◌, IfSome};
+ghost use Rattle.std.specs.Option.{option_map};
+ghost use Rattle.bm_words.specs.Table.{name_of, file_of, number_of_word, machine_of, script_of};
+ghost use Rattle.bm_words.specs.Seen.{seen_name, seen_machine};
+
+use crate::{Machine, ScriptWord};
+use bm_base::count;
+
+const MOST_DIGITS: usize = 20;
+
+/// A name.
+#[tactic(auto, unfolding(crate::specs::Table::name_of))]
+pub(crate) fn name_word(word: &str) -> Option<&str>
+    ensures { option_map seen_name result ≡ name_of word.now }
+{
+    if word.is_empty() { None } else { Some(word) }
+}
+
+/// The name behind `file:`.
+#[tactic(auto, unfolding(crate::specs::Table::file_of))]
+fn file_word(word: &str) -> Option<&str>
+    ensures { option_map seen_name result ≡ file_of word.now }
+{
+    match word.strip_prefix("file:") {
+        Some(name) => name_word(name),
+        None => None,
+    }
+}
+
+/// A number of 1 to 20 digits, of at most `most`.
+#[tactic(auto, unfolding(crate::specs::Table::number_of_word))]
+pub(crate) fn number_word(most: u64, word: &str) -> Option<u64>
+    ensures value { result ≡ number_of_word most word.now }
+    ensures within { IfSome result (λ value. value ≤ most) }
+{
+    if word.len() > MOST_DIGITS {
+        return None;
+    }
+    match count(word.as_bytes()) {
+        Ok(value) => if value <= most { Some(value) } else { None },
+        Err(_) => None,
+    }
+}
+
+/// A machine.
+#[tactic(auto, unfolding(crate::specs::Table::machine_of))]
+pub(crate) fn machine_word(word: &str) -> Option<Machine<'_>>
+    ensures { option_map seen_machine result ≡ machine_of word.now }
+{
+    if word == "default" {
+        return Some(Machine::Standard);
+    }
+    match file_word(word) {
+        Some(name) => Some(Machine::File { name }),
+        None => None,
+    }
+}
+
+/// A script.
+#[tactic(auto, unfolding(crate::specs::Table::script_of))]
+pub(crate) fn script_word(word: &str) -> Option<ScriptWord>
+    ensures { result ≡ script_of word.now }
+{
+    if word == "least" {
+        return Some(ScriptWord::Least);
+    }
+    if word == "most" {
+        return Some(ScriptWord::Most);
+    }
+    None
+}

@@ -1,0 +1,9 @@
+//! From a straight program to the core that a machine runs: its one block with the plain line.
+//!
+//! `specs/Faithful.antt` says what it is that each run of a compiled program means the source's meaning; `Compiled`
+//! what a straight program is compiled to.
+#![tactic(auto)]
+
+mod compiling;
+
+pub use compiling::compile;

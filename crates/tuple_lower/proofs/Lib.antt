@@ -1,0 +1,9 @@
+pub mod Does
+pub mod Equations
+pub mod ExprInduct
+pub mod Gives
+pub mod Placing
+pub mod Serially
+pub mod Soundness
+pub mod Statements
+pub mod Variables

@@ -1,0 +1,4 @@
+pub mod Lowered
+pub mod Lowers
+pub mod Sound
+pub mod Straight

@@ -1,0 +1,52 @@
+-- What the block of a straight program keeps, and what it means.
+use Rattle.std.specs.Prelude.{ℕ, ◌≡◌, ◌<◌, ◌≤◌, true, List, ◌∷◌, [], length, Option, Some, None, slice_get}
+use Rattle.bm_base.specs.Entry.{Entry}
+use Rattle.bm_base.specs.Memory.{Content}
+use Rattle.src_names.specs.RProgram.{RProgram}
+use Rattle.src_names.specs.Right.{IsRight, IsVariableOf, IsArrayOf}
+use Rattle.src_meaning.specs.declared.evaluate.End.TheVariants.{Done}
+use Rattle.src_meaning.specs.Meaning.{meaning}
+use Rattle.tuple_ir.specs.declared.block.Block.{Block}
+use Rattle.tuple_ir.specs.declared.block.Next.TheVariants.{Halt}
+use Rattle.tuple_ir.specs.declared.tuple.Tuple.{Tuple}
+use Rattle.tuple_ir.specs.declared.tuple.Tuple.TheVariants.{Const, Load, Store, LoadEl, StoreEl, One, Two, Print}
+use Rattle.tuple_ir.specs.Conflict.{uses}
+use Rattle.tuple_ir.specs.Kinds.{has_value}
+use Rattle.tuple_ir.specs.Serial.{outcome}
+use Rattle.tuple_lower.specs.Straight.{straight_block}
+
+-- the name that a tuple speaks of is of the right kind
+abbrev pub names_rightly : List Entry → Tuple → Type 0
+names_rightly names (Load x) = IsVariableOf names x
+names_rightly names (Store x v) = IsVariableOf names x
+names_rightly names (LoadEl x i) = IsArrayOf names x
+names_rightly names (StoreEl x i v) = IsArrayOf names x
+names_rightly names _ = Unit {0}
+
+-- cell c is that of a tuple that gives a value, before number i
+abbrev pub IsValueBefore : List Tuple → ℕ → ℕ → Type 0
+IsValueBefore tuples i c = (c < i) × ((t : Tuple) × (slice_get tuples c ≡ Some t) × (has_value t ≡ true))
+
+-- the tuple's operands are earlier tuples that give values, and its name is of the right kind
+pub record IsTupleSound (names : List Entry) (tuples : List Tuple) (i : ℕ) (tuple : Tuple) : Type 0 where
+  pub operands : (c : ℕ) → uses tuple c ≡ true → IsValueBefore tuples i c
+  pub names_right : names_rightly names tuple
+
+-- the block means what the program means, whatever the turns
+pub record MeansTheSame (p : RProgram) (block : Block) (memory : List Content) (turns : ℕ) : Type 0 where
+  pub ended : (outcome (block ∷ []) memory 1).next ≡ None
+  pub end : (meaning p memory turns).end ≡ Done
+  pub same_memory : (outcome (block ∷ []) memory 1).world.memory ≡ (meaning p memory turns).memory
+  pub same_output : (outcome (block ∷ []) memory 1).world.output ≡ (meaning p memory turns).output
+
+abbrev pub BlocksMeanPrograms : Type 0
+BlocksMeanPrograms = (p : RProgram) (block : Block) (memory : List Content) (turns : ℕ) → straight_block p ≡ Some block → MeansTheSame p block memory turns
+
+-- at most 128 tuples, each of them sound, and a halt
+pub record IsBlockSound (names : List Entry) (block : Block) : Type 0 where
+  pub few : length block.tuples ≤ 128
+  pub each : (i : ℕ) (tuple : Tuple) → slice_get block.tuples i ≡ Some tuple → IsTupleSound names block.tuples i tuple
+  pub halts : block.next ≡ Halt
+
+abbrev pub BlocksAreSound : Type 0
+BlocksAreSound = (p : RProgram) (block : Block) → IsRight p → straight_block p ≡ Some block → IsBlockSound p.names block
