@@ -13,7 +13,7 @@ write_end-requires g c =
     let m = c.args.machine.now in
     let h = c.write_prints.ensures.come (initial m.program.names) c.requires.begins.come in
     let k : IsMemoryOf m.program.names c.write_prints.new.machine.state.world.memory = kept_memory m.program m.timing c.write_prints.new.machine.state c.write_prints.new.machine.counts h in
-    rw (c.requires.names, c.store.ensures) k
+    rw (c.requires.names, c.store.ensures.value) k
 
 pub returns-in-Err-clause-sent : goal.returns-in-Err-clause-sent
 returns-in-Err-clause-sent g c =
@@ -32,7 +32,7 @@ returns-in-Ok-clause-sent g c =
     let r = e.runs (initial m.program.names) c.requires.begins.come l in
     let end : End = record { clock = n.clock; memory = n.world.memory } in
     let w = sent_as _ _ (end_lines c.clock.result c.args.names.now c.store.result.now) (end_lines n.clock m.program.names n.world.memory) _
-    (end_as c.clock.result n.clock c.args.names.now m.program.names c.store.result.now n.world.memory c.clock.ensures.value c.requires.names c.store.ensures) c.in-Ok.ensures.sent in
+    (end_as c.clock.result n.clock c.args.names.now m.program.names c.store.result.now n.world.memory c.clock.ensures.value c.requires.names c.store.ensures.value) c.in-Ok.ensures.sent in
     then_ending m.program m.timing c.args.budget r.values (Some end) (behind_none m.program m.timing c.args.budget m.state.world.output r.values (Some end) c.requires.begins.output r.shows) _ _ _ Ended (Ok 0) r.took
     (sends_all _ _ (record { status = 0; lines = end_lines n.clock m.program.names n.world.memory }) tt 0 refl w)
 
@@ -45,7 +45,7 @@ returns-in-Err-write_end-clause-sent g c =
     let r = e.runs (initial m.program.names) c.requires.begins.come l in
     let end : End = record { clock = n.clock; memory = n.world.memory } in
     let w = sent_as _ _ (end_lines c.clock.result c.args.names.now c.store.result.now) (end_lines n.clock m.program.names n.world.memory) _
-    (end_as c.clock.result n.clock c.args.names.now m.program.names c.store.result.now n.world.memory c.clock.ensures.value c.requires.names c.store.ensures) c.in-Err-write_end.ensures.sent in
+    (end_as c.clock.result n.clock c.args.names.now m.program.names c.store.result.now n.world.memory c.clock.ensures.value c.requires.names c.store.ensures.value) c.in-Err-write_end.ensures.sent in
     then_ending m.program m.timing c.args.budget r.values (Some end) (behind_none m.program m.timing c.args.budget m.state.world.output r.values (Some end) c.requires.begins.output r.shows) _ _ _ Ended (Err c.in-Err-write_end.fault) r.took
     (sends_part _ _ (record { status = 0; lines = end_lines n.clock m.program.names n.world.memory }) c.in-Err-write_end.fault w)
 
