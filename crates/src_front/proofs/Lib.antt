@@ -3,3 +3,4 @@ pub mod Chain
 pub mod Counts
 pub mod Nodes
 pub mod Once
+pub mod Answers

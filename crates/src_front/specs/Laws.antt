@@ -1,8 +1,20 @@
 -- What holds of every text.
 use Rattle.std.specs.Prelude.{◌≡◌, ℕ, List}
 use Rattle.src_names.specs.RProgram.{RProgram}
-use Rattle.src_front.specs.Reads.{Reads}
+use Rattle.src_front.specs.declared.fault.SourceFault.{SourceFault}
+use Rattle.src_front.specs.Reads.{Reads, FirstFault}
 
 -- a text reads as at most one program
 abbrev pub ReadOnce : Type 0
 ReadOnce = (src : List ℕ) (r q : RProgram) → Reads src r → Reads src q → r ≡ q
+
+-- what a text is: a program, or a text with a first fault
+pub data Answer (src : List ℕ) : Type 0 where
+  program : {r : RProgram} → Reads src r → Answer src
+  fault : {e : SourceFault} → FirstFault src e → Answer src
+
+-- each text is one of the two and not both, and has no other first fault
+pub record HaveOneAnswer : Type 0 where
+  pub some : (src : List ℕ) → Answer src
+  pub not_both : (src : List ℕ) (r : RProgram) (e : SourceFault) → Reads src r → FirstFault src e → ⊥
+  pub one_fault : (src : List ℕ) (d e : SourceFault) → FirstFault src d → FirstFault src e → d ≡ e

@@ -1,10 +1,11 @@
 //! Laws of texts and the programs that they read as.
 
-ghost use Rattle.src_front.specs.Laws.{ReadOnce};
+ghost use Rattle.src_front.specs.Laws.{HaveOneAnswer, ReadOnce};
 
-use src_lexer::text_has_one_spelling;
-use src_names::trees_have_one_program;
-use src_parser::tokens_have_one_tree;
+use src_lexer::{text_has_one_spelling, texts_have_one_answer};
+use src_names::{trees_have_one_answer, trees_have_one_program};
+use src_parser::{tokens_have_one_answer, tokens_have_one_tree};
+use src_tree::derived_trees_are_plain;
 
 /// A text reads as at most one resolved program.
 pub fn texts_read_once()
@@ -13,4 +14,16 @@ pub fn texts_read_once()
     text_has_one_spelling();
     tokens_have_one_tree();
     trees_have_one_program();
+}
+
+/// Each text reads as a program or has a first fault; not both, and no other first fault.
+pub fn sources_have_one_answer()
+    ensures { HaveOneAnswer }
+{
+    text_has_one_spelling();
+    tokens_have_one_tree();
+    derived_trees_are_plain();
+    texts_have_one_answer();
+    tokens_have_one_answer();
+    trees_have_one_answer();
 }

@@ -1,3 +1,4 @@
 pub mod SymbolFacts
 pub mod Unique
 pub mod Order
+pub mod Some

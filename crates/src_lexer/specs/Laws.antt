@@ -5,7 +5,8 @@ use Rattle.src_lexer.specs.declared.token.TokenKind.{TokenKind}
 use Rattle.src_lexer.specs.declared.token.TokenKind.TheVariants.{Name, Number, Word, Sym}
 use Rattle.src_lexer.specs.declared.token.Token.{Token}
 use Rattle.src_lexer.specs.Symbols.{spelling, keyword, word_of}
-use Rattle.src_lexer.specs.Spell.{Spells, begins_name, is_name_byte, value_of}
+use Rattle.src_lexer.specs.declared.fault.LexFault.{LexFault}
+use Rattle.src_lexer.specs.Spell.{Spells, AreAllowed, Faults, begins_name, is_name_byte, value_of}
 
 -- the tokens stand between these places, one behind the other, none empty
 abbrev pub InOrder : ℕ → ℕ → List Token → Type 0
@@ -52,3 +53,14 @@ pub record Ordered (src : List ℕ) (ts : List Token) : Type 0 where
 
 abbrev pub AreOrdered : Type 0
 AreOrdered = (src : List ℕ) (ts : List Token) → Spells src 0 ts → Ordered src ts
+
+-- what a text is: a row of tokens within the limits, or one with a first fault
+pub data Answer (src : List ℕ) : Type 0 where
+  tokens : {ts : List Token} → Spells src 0 ts → AreAllowed src ts → Answer src
+  fault : {e : LexFault} → Faults src 0 e → Answer src
+
+-- each text is one of the two and not both, and has no other first fault
+pub record HaveOneAnswer : Type 0 where
+  pub some : (src : List ℕ) → Answer src
+  pub not_both : (src : List ℕ) (ts : List Token) (e : LexFault) → Spells src 0 ts → AreAllowed src ts → Faults src 0 e → ⊥
+  pub one_fault : (src : List ℕ) (d e : LexFault) → Faults src 0 d → Faults src 0 e → d ≡ e

@@ -7,3 +7,4 @@ pub mod Declaring
 pub mod Unique
 pub mod First
 pub mod Whole
+pub mod Some

@@ -13,7 +13,7 @@ mod naming;
 mod resolved;
 
 pub use fault::NameFault;
-pub use laws::{trees_have_one_fault, trees_have_one_program};
+pub use laws::{trees_have_one_answer, trees_have_one_program};
 pub use naming::resolve;
 pub use resolved::{RExpr, RStmt, Resolved};
 

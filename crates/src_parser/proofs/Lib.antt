@@ -11,3 +11,4 @@ pub mod Fit
 pub mod Lists
 pub mod Few
 pub mod Again
+pub mod Some

@@ -8,6 +8,8 @@ use Rattle.src_tree.specs.Limits.{KeepsLimits}
 use Rattle.src_tree.specs.Text.{program_text}
 use Rattle.src_tree.specs.Plain.{IsPlain}
 use Rattle.src_tree.specs.Same.{IsSame}
+use Rattle.src_parser.specs.declared.fault.ParseFault.{ParseFault}
+use Rattle.src_parser.specs.Fault.{Faults}
 
 -- tokens derive at most one program
 abbrev pub HaveOneTree : Type 0
@@ -28,3 +30,14 @@ pub record IsParsedAgain (p : Program) : Type 0 where
 -- the text of every plain tree is lexed and parsed as the same tree
 abbrev pub AreParsedAgain : Type 0
 AreParsedAgain = (p : Program) → IsPlain p → IsParsedAgain p
+
+-- what tokens are: a tree within the limits, or tokens with a first fault
+pub data Answer (src : List ℕ) (ts : List Token) : Type 0 where
+  tree : {p : Program} → Derives src ts p → KeepsLimits ts → Answer src ts
+  fault : {e : ParseFault} → Faults src ts e → Answer src ts
+
+-- tokens are one of the two and not both, and have no other first fault
+pub record HaveOneAnswer : Type 0 where
+  pub some : (src : List ℕ) (ts : List Token) → Answer src ts
+  pub not_both : (src : List ℕ) (ts : List Token) (p : Program) (e : ParseFault) → Derives src ts p → KeepsLimits ts → Faults src ts e → ⊥
+  pub one_fault : (src : List ℕ) (ts : List Token) (d e : ParseFault) → Faults src ts d → Faults src ts e → d ≡ e

@@ -1,6 +1,6 @@
 //! Laws of texts and their trees.
 
-ghost use Rattle.src_parser.specs.Laws.{AreParsedAgain, HaveOneTree};
+ghost use Rattle.src_parser.specs.Laws.{AreParsedAgain, HaveOneAnswer, HaveOneTree};
 
 use src_lexer::text_has_one_spelling;
 use src_tree::text_of_a_plain_tree_is_read_again;
@@ -18,3 +18,9 @@ pub fn text_of_a_plain_tree_is_parsed_again()
     text_has_one_spelling();
     text_of_a_plain_tree_is_read_again();
 }
+
+/// Tokens derive a tree within the limits on depth and nodes, or they have a first fault; not both,
+/// and no other first fault.
+pub fn tokens_have_one_answer()
+    ensures { HaveOneAnswer }
+{}

@@ -17,7 +17,9 @@ mod tally;
 mod want;
 
 pub use fault::ParseFault;
-pub use laws::{text_of_a_plain_tree_is_parsed_again, tokens_have_one_tree};
+pub use laws::{
+    text_of_a_plain_tree_is_parsed_again, tokens_have_one_answer, tokens_have_one_tree,
+};
 pub use program::parse;
 pub use want::Want;
 
