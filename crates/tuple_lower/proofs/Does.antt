@@ -1,5 +1,5 @@
 -- The tuples of straight statements do what the statements mean.
-use Rattle.std.proofs.Common.{◌≡◌, ◌<◌, ◌≤◌, ◌+◌, ◌-◌, ◌&&◌, ℕ, suc, ℤ, pos, Bool, true, false, List, [], ◌∷◌, ◌++◌, length, map, Some, None, Option, refl, sym, ap, subst, ◌∙◌, arith, append_assoc, append-nil, length-append}
+use Rattle.std.proofs.Common.{◌≡◌, ◌≤◌, ◌+◌, ◌-◌, ◌&&◌, ℕ, pos, Bool, true, false, List, [], ◌∷◌, ◌++◌, length, Some, None, refl, sym, ap, subst, ◌∙◌, arith, append_assoc, append-nil, length-append}
 use Rattle.std.specs.Prelude.{if◌then◌else◌, nat_le}
 use Rattle.std.proofs.lemmas.List.{length-replicate}
 use Rattle.std.proofs.lemmas.Bool.Decides.{nat_tests}
@@ -9,22 +9,21 @@ use Rattle.src_names.specs.declared.resolved.RExpr.{RExpr}
 use Rattle.src_names.specs.declared.resolved.RStmt.{RStmt}
 use Rattle.src_names.specs.declared.resolved.RStmt.TheVariants as s
 use Rattle.src_meaning.specs.declared.evaluate.End.TheVariants.{Done}
-use Rattle.src_meaning.specs.Meaning.{Outcome, Action, done, behind, and_then, value_of, statement, statements, in_order, meaning}
+use Rattle.src_meaning.specs.Meaning.{Outcome, Action, done, behind, and_then, value_of, statement, statements}
 use Rattle.src_meaning.proofs.Equations.{statement-assign, statement-print}
 use Rattle.src_meaning.proofs.Algebra.{and_then-done, go_on}
-use Rattle.src_meaning.proofs.Induct.{Cases, induct}
+use Rattle.src_meaning.proofs.Induct.{induct}
 use Rattle.tuple_ir.specs.World.{World, cell, do_tuple, serial, at_first}
-use Rattle.tuple_ir.specs.Serial.{outcome}
 use Rattle.tuple_ir.specs.declared.block.Block.{Block}
 use Rattle.tuple_ir.specs.declared.block.Next.TheVariants.{Halt}
 use Rattle.tuple_ir.specs.declared.tuple.Tuple as t
 use Rattle.tuple_ir.specs.declared.tuple.Tuple.TheVariants as tuple
-use Rattle.tuple_lower.specs.Lowered.{last_of, expr_tuples, stmt_tuples, body_tuples, in_row}
-use Rattle.tuple_lower.specs.Straight.{straight_stmt, straight_body, straight_expr, straight_block, are_variables}
+use Rattle.tuple_lower.specs.Lowered.{last_of, expr_tuples, stmt_tuples, body_tuples}
+use Rattle.tuple_lower.specs.Straight.{straight_stmt, straight_body, straight_block, are_variables}
 use Rattle.tuple_lower.specs.Sound.{MeansTheSame}
 use Rattle.tuple_lower.proofs.Equations.{tuples-assign, tuples-print, straight-set, straight-if, straight-while}
 use Rattle.tuple_lower.proofs.Serially.{after_all, after_all-append, serial-is}
-use Rattle.tuple_lower.proofs.Gives.{Gives, expr_gives}
+use Rattle.tuple_lower.proofs.Gives.{expr_gives}
 
 -- the world after is the outcome of what was done in the world before
 pub record Does (before after : World) (o : Outcome) : Type 0 where

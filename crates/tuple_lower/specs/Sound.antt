@@ -1,5 +1,5 @@
 -- What the block of a straight program keeps, and what it means.
-use Rattle.std.specs.Prelude.{ℕ, ◌≡◌, ◌<◌, ◌≤◌, true, List, ◌∷◌, [], length, Option, Some, None, slice_get}
+use Rattle.std.specs.Prelude.{ℕ, ◌≡◌, ◌<◌, ◌≤◌, true, List, ◌∷◌, [], length, Some, None, slice_get}
 use Rattle.bm_base.specs.Entry.{Entry}
 use Rattle.bm_base.specs.Memory.{Content}
 use Rattle.src_names.specs.RProgram.{RProgram}
@@ -9,7 +9,7 @@ use Rattle.src_meaning.specs.Meaning.{meaning}
 use Rattle.tuple_ir.specs.declared.block.Block.{Block}
 use Rattle.tuple_ir.specs.declared.block.Next.TheVariants.{Halt}
 use Rattle.tuple_ir.specs.declared.tuple.Tuple.{Tuple}
-use Rattle.tuple_ir.specs.declared.tuple.Tuple.TheVariants.{Const, Load, Store, LoadEl, StoreEl, One, Two, Print}
+use Rattle.tuple_ir.specs.declared.tuple.Tuple.TheVariants.{Load, Store, LoadEl, StoreEl}
 use Rattle.tuple_ir.specs.Conflict.{uses}
 use Rattle.tuple_ir.specs.Kinds.{has_value}
 use Rattle.tuple_ir.specs.Serial.{outcome}
