@@ -15,10 +15,12 @@ ghost use Rattle.bmimd_top.specs.Clauses.{IsUsage};
 
 mod eval;
 mod go;
+mod laws;
 
 use bm_course::{Refusal, Stop, report};
 use bm_io::{Files, Sink};
 use bm_words::{Command, match_words};
+pub use laws::enough_ticks_end_a_run;
 use std::alloc::Global;
 
 /// How a call of the program ends: 0 it has ended or is done, 1 usage, 2 the source is no program, 3 a limit is

@@ -5,5 +5,7 @@
 #![tactic(auto)]
 
 mod compiling;
+mod laws;
 
 pub use compiling::compile;
+pub use laws::compiled_programs_fit_their_machine;
