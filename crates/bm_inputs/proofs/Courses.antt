@@ -4,6 +4,7 @@ use Rattle.bm_base.specs.Machine.{Machine}
 use Rattle.bm_base.specs.Spec.{standard}
 use Rattle.machine_file.specs.declared.fault.MachineFault.{MachineFault}
 use Rattle.src_names.specs.RProgram.{RProgram}
+use Rattle.src_front.specs.Laws.{ReadOnce, HaveOneAnswer}
 use Rattle.bm_words.specs.Table.{MachineOf, Default, MachineFile}
 use Rattle.bm_course.specs.Course.{Refused, give, judge}
 use Rattle.bm_course.specs.Limited.{limited}
@@ -12,6 +13,7 @@ use Rattle.bm_course.specs.Clauses.{IsOfContent}
 use Rattle.bm_course.proofs.Settling.{limited-determined, then-determined, judge-determined, give-determined}
 use Rattle.bm_course.proofs.Statuses.{then-bounds, judge-bounds, give-bounds, limited-bounds}
 use Rattle.bm_lines.specs.Machine.{machine_refused}
+use Rattle.bm_lines.specs.Source.{source_refused}
 use Rattle.bm_lines.proofs.Statuses.{source_refusal, machine_refusal}
 use Rattle.bm_inputs.specs.Sources.{ReadsSource, source_course}
 use Rattle.bm_inputs.specs.Machines.{ReadsMachine, file_course, machine_course}
@@ -30,6 +32,19 @@ pub source-bounds : (name : List ℕ) → Bounds refusal (λ p. Unit {0}) (sourc
 source-bounds name =
     then-bounds refusal (λ x. Unit {0}) (λ p. Unit {0}) (limited name 262144) (λ bytes. judge (ReadsSource bytes)) (limited-any name 262144)
     (λ bytes t. judge-bounds refusal (λ p. Unit {0}) (ReadsSource bytes) (λ p h. tt) (λ r h. source_refusal h.0 r h.2))
+
+source-once : ReadOnce → HaveOneAnswer → (bytes : List ℕ) → HasOneVerdict (ReadsSource bytes)
+source-once once one bytes (Ok p) (Ok q) h k = ap Ok (once bytes p q h k)
+source-once once one bytes (Ok p) (Err r) h k = absurd (one.not_both bytes p k.0 h k.1)
+source-once once one bytes (Err r) (Ok p) h k = absurd (one.not_both bytes p h.0 k h.1)
+source-once once one bytes (Err r) (Err q) h k =
+    let d : h.0 ≡ k.0 = one.one_fault bytes h.0 k.0 h.1 k.1 in
+    let f : Some r ≡ Some q = sym h.2 ∙ ap source_refused d ∙ k.2 in
+    let g : r ≡ q = cc in
+    ap Err g
+
+pub source-determined : ReadOnce → HaveOneAnswer → (name : List ℕ) → IsDetermined (source_course name)
+source-determined once one name = then-determined (limited name 262144) (λ bytes. judge (ReadsSource bytes)) (limited-determined name 262144) (λ bytes. judge-determined (ReadsSource bytes) (source-once once one bytes))
 
 machine-once : (bytes : List ℕ) → HasOneVerdict (ReadsMachine bytes)
 machine-once bytes (Ok p) (Ok q) h k =

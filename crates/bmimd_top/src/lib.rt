@@ -15,6 +15,9 @@ ghost use Rattle.bmimd_top.specs.Clauses.{IsUsage};
 
 mod eval;
 mod go;
+mod laws;
+
+pub use laws::words_have_one_step;
 
 use bm_course::{Refusal, Stop, report};
 use bm_io::{Files, Sink};
@@ -40,7 +43,7 @@ pub fn bmimd<F: Files, O: Sink, E: Sink>(
     err: &mut E,
 ) -> Status
     // What is read, what is written and the status are what the words and the contents come to; each status has its
-    // cause; what the held files lead to is written or refused.
+    // cause; what the held files lead to is written or refused, unless a fault or want of memory comes before.
     ensures answers { Answers (F.held files.old) (seen F.asked F.faults O.taken O.faults E.taken E.faults files.old out.old err.old)
         (seen F.asked F.faults O.taken O.faults E.taken E.faults files.new out.new err.new)
         (course_of (map string_bytes words.now)) result.code }
@@ -53,6 +56,7 @@ pub fn bmimd<F: Files, O: Sink, E: Sink>(
     ensures unmatched { request_of (map string_bytes words.now) ≡ None → IsUsage (seen F.asked F.faults O.taken O.faults E.taken E.faults files.old out.old err.old)
         (seen F.asked F.faults O.taken O.faults E.taken E.faults files.new out.new err.new) result.code }
 {
+    words_have_one_step();
     call(alloc, words, files, out, err)
 }
 

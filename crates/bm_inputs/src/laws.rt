@@ -1,0 +1,18 @@
+//! Laws of the programs and machines that commands read.
+
+ghost use Rattle.std.specs.Prelude.{ℕ, List};
+ghost use Rattle.bm_words.specs.Table.{MachineOf};
+ghost use Rattle.bm_course.specs.Laws.{IsDetermined};
+ghost use Rattle.bm_inputs.specs.Sources.{source_course};
+ghost use Rattle.bm_inputs.specs.Machines.{machine_course};
+
+use src_front::{sources_have_one_answer, texts_read_once};
+
+/// After the same contents the course of a source comes to one step, and so does that of a machine.
+pub fn inputs_have_one_step()
+    ensures source { (name : List ℕ) → IsDetermined (source_course name) }
+    ensures machine { (machine : MachineOf) → IsDetermined (machine_course machine) }
+{
+    texts_read_once();
+    sources_have_one_answer();
+}
