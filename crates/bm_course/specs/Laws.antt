@@ -2,7 +2,7 @@
 use Rattle.std.specs.Prelude.{ℕ, ◌≡◌, List, Result}
 use Rattle.bm_course.specs.Course.{Refused, Step, Refuses, Gives, Course}
 
--- after the same contents it comes to one step
+-- after the same contents it comes to at most one step
 abbrev pub IsDetermined : {A : Type 0} → Course A → Type 0
 IsDetermined {A = A} course = (contents : List (List ℕ)) (s t : Step A) → course contents s → course contents t → s ≡ t
 
