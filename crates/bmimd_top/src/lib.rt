@@ -17,11 +17,10 @@ mod eval;
 mod go;
 mod laws;
 
-pub use laws::words_have_one_step;
-
 use bm_course::{Refusal, Stop, report};
 use bm_io::{Files, Sink};
 use bm_words::{Command, match_words};
+pub use laws::words_have_one_step;
 use std::alloc::Global;
 
 /// How a call of the program ends: 0 it has ended or is done, 1 usage, 2 the source is no program, 3 a limit is
