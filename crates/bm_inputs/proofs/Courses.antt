@@ -1,20 +1,24 @@
 -- Courses of sources and machines come to one step, and their refusals have their statuses.
 use Rattle.std.proofs.Common.{◌≡◌, ◌≤◌, ◌⊎◌, ℕ, List, Option, Some, Result, Ok, Err, refl, sym, ap, subst, ◌∙◌, inl, inr, arith}
+use Rattle.bm_io.specs.Files.{Held}
 use Rattle.bm_base.specs.Machine.{Machine}
 use Rattle.bm_base.specs.Spec.{standard}
 use Rattle.machine_file.specs.declared.fault.MachineFault.{MachineFault}
+use Rattle.machine_file.specs.MachineFile.{Read, machine_of}
 use Rattle.src_names.specs.RProgram.{RProgram}
-use Rattle.src_front.specs.Laws.{ReadOnce, HaveOneAnswer}
+use Rattle.src_front.specs.Laws.{ReadOnce, HaveOneAnswer, Answer, program, fault}
 use Rattle.bm_words.specs.Table.{MachineOf, Default, MachineFile}
 use Rattle.bm_course.specs.Course.{Refused, give, judge}
 use Rattle.bm_course.specs.Limited.{limited}
-use Rattle.bm_course.specs.Laws.{IsDetermined, HasOneVerdict, Bounds}
+use Rattle.bm_course.specs.Laws.{IsDetermined, HasOneVerdict, HasSomeVerdict, Settles, Bounds}
 use Rattle.bm_course.specs.Clauses.{IsOfContent}
 use Rattle.bm_course.proofs.Settling.{limited-determined, then-determined, judge-determined, give-determined}
+use Rattle.bm_course.proofs.Leading.{limited-settles, then-settles, judge-settles, give-settles}
 use Rattle.bm_course.proofs.Statuses.{then-bounds, judge-bounds, give-bounds, limited-bounds}
 use Rattle.bm_lines.specs.Machine.{machine_refused}
 use Rattle.bm_lines.specs.Source.{source_refused}
 use Rattle.bm_lines.proofs.Statuses.{source_refusal, machine_refusal}
+use Rattle.bm_lines.proofs.Refusing.{source_told, AreTold, machine_told}
 use Rattle.bm_inputs.specs.Sources.{ReadsSource, source_course}
 use Rattle.bm_inputs.specs.Machines.{ReadsMachine, file_course, machine_course}
 
@@ -69,3 +73,25 @@ machine-bounds Default = give-bounds refusal (λ m. Unit {0}) standard tt
 machine-bounds (MachineFile name) =
     then-bounds refusal (λ x. Unit {0}) (λ m. Unit {0}) (limited name 65536) (λ bytes. judge (ReadsMachine bytes)) (limited-any name 65536)
     (λ bytes t. judge-bounds refusal (λ m. Unit {0}) (ReadsMachine bytes) (λ m h. tt) (λ r h. machine_refusal h.0 r h.2))
+
+-- whatever the held files hold, they lead to a program, a machine or a refusal
+source-some : HaveOneAnswer → (bytes : List ℕ) → HasSomeVerdict (ReadsSource bytes)
+source-some one bytes = by (one.some bytes)
+  where
+    by : Answer bytes → HasSomeVerdict (ReadsSource bytes)
+    by (program {r = p} h) = (Ok p, h)
+    by (fault {e = e} h) = let t = source_told bytes h in (Err t.0, (e, h, t.1))
+
+pub source-settles : HaveOneAnswer → (held : Held) (name : List ℕ) → Settles held (source_course name)
+source-settles one held name = then-settles held (limited name 262144) (λ bytes. judge (ReadsSource bytes)) (limited-settles held name 262144) (λ bytes. judge-settles held (ReadsSource bytes) (source-some one bytes))
+
+machine-some : (bytes : List ℕ) → HasSomeVerdict (ReadsMachine bytes)
+machine-some bytes = by (machine_of bytes) refl (machine_told bytes)
+  where
+    by : (m : Read Machine) → machine_of bytes ≡ m → AreTold m → HasSomeVerdict (ReadsMachine bytes)
+    by (Ok m) e t = (Ok m, e)
+    by (Err f) e t = (Err t.0, (f, e, t.1))
+
+pub machine-settles : (held : Held) (machine : MachineOf) → Settles held (machine_course machine)
+machine-settles held Default = give-settles held standard
+machine-settles held (MachineFile name) = then-settles held (limited name 65536) (λ bytes. judge (ReadsMachine bytes)) (limited-settles held name 65536) (λ bytes. judge-settles held (ReadsMachine bytes) (machine-some bytes))
