@@ -17,7 +17,7 @@ mod eval;
 mod go;
 mod laws;
 
-pub use laws::words_have_one_step;
+pub use laws::{words_have_an_end, words_have_one_step};
 
 use bm_course::{Refusal, Stop, report};
 use bm_io::{Files, Sink};

@@ -5,4 +5,4 @@ pub returns-clause-source : goal.returns-clause-source
 returns-clause-source c = source-settles c.sources_have_one_answer.ensures
 
 pub returns-clause-machine : goal.returns-clause-machine
-returns-clause-machine c = machine-settles
+returns-clause-machine c = machine-settles c.machine_files_mean_machines.ensures.fault
