@@ -4,7 +4,7 @@ use Rattle.bm_io.specs.Files.{Held}
 use Rattle.bm_course.specs.Course.{Refused, Output, Step, Refuses, Gives, Course, IsReading}
 use Rattle.bm_course.specs.Clauses.{Leads}
 
--- after the same contents it comes to one step
+-- after the same contents it comes to at most one step
 abbrev pub IsDetermined : {A : Type 0} → Course A → Type 0
 IsDetermined {A = A} course = (contents : List (List ℕ)) (s t : Step A) → course contents s → course contents t → s ≡ t
 

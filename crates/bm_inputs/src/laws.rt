@@ -14,7 +14,8 @@ ghost use Rattle.bm_inputs.specs.Machines.{machine_course};
 use machine_file::machine_files_mean_machines;
 use src_front::{programs_are_read_right, sources_have_one_answer, texts_read_once};
 
-/// After the same contents the course of a source comes to one step, and so does that of a machine.
+/// After the same contents the course of a source comes to at most one step, and so does that of a
+/// machine.
 pub fn inputs_have_one_step()
     ensures source { (name : List ℕ) → IsDetermined (source_course name) }
     ensures machine { (machine : MachineOf) → IsDetermined (machine_course machine) }

@@ -9,7 +9,7 @@ use bm_inputs::{inputs_are_right, inputs_have_one_step, inputs_settle};
 use plain_image::straight_programs_have_images;
 use run_text::{runs_have_one_text, runs_have_some_text};
 
-/// After the same contents, what words ask for comes to one step.
+/// After the same contents, what words ask for comes to at most one step.
 pub fn words_have_one_step()
     ensures { (words : List (List ℕ)) → IsDetermined (course_of words) }
 {
