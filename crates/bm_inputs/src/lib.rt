@@ -7,6 +7,6 @@ mod laws;
 mod machine;
 mod source;
 
-pub use laws::inputs_have_one_step;
+pub use laws::{inputs_are_right, inputs_have_one_step, inputs_settle};
 pub use machine::named_machine;
 pub use source::source_of;

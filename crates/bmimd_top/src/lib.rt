@@ -20,7 +20,7 @@ mod laws;
 use bm_course::{Refusal, Stop, report};
 use bm_io::{Files, Sink};
 use bm_words::{Command, match_words};
-pub use laws::words_have_one_step;
+pub use laws::{words_have_an_end, words_have_one_step};
 use std::alloc::Global;
 
 /// How a call of the program ends: 0 it has ended or is done, 1 usage, 2 the source is no program, 3 a limit is
