@@ -3,6 +3,7 @@ pub mod Coming
 pub mod Concluding
 pub mod Ended
 pub mod Settling
+pub mod Leading
 pub mod Statuses
 pub mod Answering
 pub mod Sending

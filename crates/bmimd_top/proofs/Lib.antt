@@ -1,2 +1,4 @@
 pub mod Rows
+pub mod Settled
+pub mod Leads
 pub mod Evaluating

@@ -6,11 +6,11 @@ use Rattle.bm_words.specs.declared.command.ScriptWord.{ScriptWord}
 use Rattle.bm_words.specs.Table.{Request, MachineOf, EvalOf, GoOf}
 use Rattle.bm_course.specs.Course.{Refused, Output, Course, ◌>>=◌, give, refuse, judge}
 use Rattle.bm_course.specs.Lines.{usage}
-use Rattle.bm_course.specs.Laws.{Bounds}
+use Rattle.bm_course.specs.Laws.{IsDetermined, Bounds}
 use Rattle.bm_course.specs.Goes.{Seen, Goes}
-use Rattle.bm_course.specs.Clauses.{IsRefusal, HasEnded}
+use Rattle.bm_course.specs.Clauses.{IsRefused, IsRefusal, HasEnded}
 use Rattle.bm_course.specs.Answers.{Answers}
-use Rattle.bm_course.proofs.Statuses.{then-bounds, judge-bounds, give-bounds, refuse-bounds, wider-bounds, content_refusal, content_only, refused_at_once}
+use Rattle.bm_course.proofs.Statuses.{then-bounds, judge-bounds, give-bounds, refuse-bounds, wider-bounds, content_refusal, content_only, outcome, refused_only, refused_at_once}
 use Rattle.bm_course.proofs.Answering.{answered}
 use Rattle.src_names.specs.RProgram.{RProgram}
 use Rattle.src_meaning.specs.declared.evaluate.End as e
@@ -72,13 +72,12 @@ row-bounds (Some (EvalOf name turns)) = all (eval_course name turns) (eval-bound
 row-bounds (Some (GoOf name machine script budget)) = all (go_course name machine script budget) (go-bounds name machine script budget)
 
 module _ (told : Option Held) (before now : Seen) (status : ℕ) where
-  pub row-answers : (q : Option Request) → Goes told before now (course_by q) status → Answers told before now (course_by q) status
-  row-answers q g = answered told before now (course_by q) status (row-bounds q) g
+  pub row-answers : (q : Option Request) → IsDetermined (course_by q) → Goes told before now (course_by q) status → Answers told before now (course_by q) status
+  row-answers q d g = answered told before now (course_by q) status d (row-bounds q) g
 
   not_usage : (course : Course Output) → Bounds refusal ended course → Goes told before now course status → status ≡ 1 → ⊥
   not_usage course b g e =
-      let a : Answers told before now course status = answered told before now course status (all course b) g in
-      let r = a.refused (inl (omega arith, omega arith)) in
+      let r : IsRefused told before now course status = refused_only told before now course status (all course b) (outcome told before now course status g) (inl (omega arith, omega arith)) in
       content_only r.refusal.status (b.refuses r.contents r.refusal r.refuses) (sym r.status_is ∙ e)
 
   pub usage_only : (q : Option Request) → Goes told before now (course_by q) status → status ≡ 1 → q ≡ None

@@ -20,7 +20,7 @@ mod laws;
 use bm_course::{Refusal, Stop, report};
 use bm_io::{Files, Sink};
 use bm_words::{Command, match_words};
-pub use laws::enough_ticks_end_a_run;
+pub use laws::{enough_ticks_end_a_run, words_have_an_end, words_have_one_step};
 use std::alloc::Global;
 
 /// How a call of the program ends: 0 it has ended or is done, 1 usage, 2 the source is no program, 3 a limit is
@@ -42,7 +42,7 @@ pub fn bmimd<F: Files, O: Sink, E: Sink>(
     err: &mut E,
 ) -> Status
     // What is read, what is written and the status are what the words and the contents come to; each status has its
-    // cause; what the held files lead to is written or refused.
+    // cause; what the held files lead to is written or refused, unless a fault or want of memory comes before.
     ensures answers { Answers (F.held files.old) (seen F.asked F.faults O.taken O.faults E.taken E.faults files.old out.old err.old)
         (seen F.asked F.faults O.taken O.faults E.taken E.faults files.new out.new err.new)
         (course_of (map string_bytes words.now)) result.code }
@@ -55,6 +55,7 @@ pub fn bmimd<F: Files, O: Sink, E: Sink>(
     ensures unmatched { request_of (map string_bytes words.now) ≡ None → IsUsage (seen F.asked F.faults O.taken O.faults E.taken E.faults files.old out.old err.old)
         (seen F.asked F.faults O.taken O.faults E.taken E.faults files.new out.new err.new) result.code }
 {
+    words_have_one_step();
     call(alloc, words, files, out, err)
 }
 

@@ -6,9 +6,11 @@
 #![tactic(auto)]
 
 mod fault;
+mod laws;
 mod read;
 
 pub use fault::{KeyName, MachineFault};
+pub use laws::machine_files_mean_machines;
 pub use read::read_machine;
 
 #[cfg(test)]

@@ -1,6 +1,6 @@
 -- A run that no run passes in time has ended by then.
-use Rattle.std.proofs.Common.{◌≡◌, ℕ, zero, suc, ◌<◌, ◌≤◌, List, [], ◌∷◌, length, Option, Some, None, refl, sym, ap, ◌∙◌, subst, arith}
-use Rattle.bm_base.specs.Memory.{Content, initial}
+use Rattle.std.proofs.Common.{◌≡◌, ℕ, ◌≤◌, List, ◌∷◌, length, Option, Some, None, refl, arith}
+use Rattle.bm_base.specs.Memory.{Content}
 use Rattle.unit_law.specs.State.{Program, Mode, In, Entering, Ended, State}
 use Rattle.unit_law.specs.Units.{Choice}
 use Rattle.unit_law.specs.Steps.{Action, state_after, IsRun}

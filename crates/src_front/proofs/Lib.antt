@@ -4,3 +4,4 @@ pub mod Counts
 pub mod Nodes
 pub mod Once
 pub mod Answers
+pub mod Right

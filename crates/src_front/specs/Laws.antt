@@ -1,6 +1,7 @@
 -- What holds of every text.
 use Rattle.std.specs.Prelude.{◌≡◌, ℕ, List}
 use Rattle.src_names.specs.RProgram.{RProgram}
+use Rattle.src_names.specs.Right.{IsRight}
 use Rattle.src_front.specs.declared.fault.SourceFault.{SourceFault}
 use Rattle.src_front.specs.Reads.{Reads, FirstFault}
 
@@ -18,3 +19,7 @@ pub record HaveOneAnswer : Type 0 where
   pub some : (src : List ℕ) → Answer src
   pub not_both : (src : List ℕ) (r : RProgram) (e : SourceFault) → Reads src r → FirstFault src e → ⊥
   pub one_fault : (src : List ℕ) (d e : SourceFault) → FirstFault src d → FirstFault src e → d ≡ e
+
+-- what a text reads as has lawful names, and each name number in it is declared and of the right kind
+abbrev pub ReadRight : Type 0
+ReadRight = (src : List ℕ) (r : RProgram) → Reads src r → IsRight r

@@ -1,4 +1,4 @@
-use Rattle.std.proofs.Common.{◌≡◌, List, refl, ap, ◌∙◌}
+use Rattle.std.proofs.Common.{List, refl, ap, ◌∙◌}
 use Rattle.bm_base.specs.Memory.{initial}
 use Rattle.timing_script.specs.Script.{script_duration}
 use Rattle.timing_script.specs.Within.{script_duration-within}

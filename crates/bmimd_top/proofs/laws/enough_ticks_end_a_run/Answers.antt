@@ -1,4 +1,4 @@
-use Rattle.std.proofs.Common.{◌≡◌, ℕ, ◌≤◌, List, sym, ap, subst, arith}
+use Rattle.std.proofs.Common.{◌≡◌, ◌≤◌, List, ap, arith}
 use Rattle.bm_base.specs.Memory.{initial}
 use Rattle.unit_law.specs.Steps.{Action, state_after, IsRun}
 use Rattle.src_meaning.proofs.Kept.{IsMemoryOf-initial}
@@ -7,9 +7,9 @@ use Rattle.src_meaning.specs.Meaning.{meaning}
 use Rattle.bmimd_top.proofs.laws.enough_ticks_end_a_run.Goals as goal
 
 pub returns : goal.returns
-returns c machine p m script budget n text lawful compiled is_text done enough =
-    let fit = c.compiled_programs_fit_their_machine.ensures.fit machine p m lawful compiled in
-    let times = c.compiled_programs_fit_their_machine.ensures.times machine p m lawful compiled in
+returns c machine p m script budget n text lawful right compiled is_text done enough =
+    let fit = c.straight_programs_have_images.ensures.fit machine p m lawful right compiled in
+    let times = c.straight_programs_have_images.ensures.times machine p m lawful right compiled in
     let memory = initial m.names in
     let ends : (meaning p memory n).end ≡ Done = ap (λ names. (meaning p (initial names) n).end) compiled.faithful.names ∙ done in
     let bound : (past : List Action) → IsRun m memory past → (state_after m memory past).clock ≤ budget =

@@ -1,0 +1,142 @@
+-- What a machine file means: a machine, or a fault that is not want of memory.
+use Rattle.std.proofs.Common.{◌≡◌, ◌≢◌, ◌≤◌, inl, inr, ℕ, suc, ℤ, pos, negsuc, List, [], ◌∷◌, length, Bool, true, false, Option, Some, None, Ok, Err, refl, ap, subst, if◌then◌else◌}
+use Rattle.std.specs.Prelude.{codes}
+use Rattle.std.specs.List.{AllByRecursion}
+use Rattle.std.specs.Str.{is_utf8}
+use Rattle.std.proofs.lemmas.Bool.Decides.{leb_tells}
+use Rattle.bm_base.specs.declared.spec.Interval.{Interval}
+use Rattle.bm_base.specs.Machine.{Machine, IsTime, IsMachine}
+use Rattle.toml.specs.Data.{Data, Members, get_member, as_integer, as_table}
+use Rattle.toml.specs.Parse.{parse_document}
+use Rattle.machine_file.specs.declared.fault.MachineFault.{MachineFault}
+use Rattle.machine_file.specs.declared.fault.MachineFault.TheVariants.{NotToml, Memory}
+use Rattle.machine_file.specs.Keys.{top_keys, class_keys, keys_of, first_unknown}
+use Rattle.machine_file.specs.MachineFile.{Read, ◌>>=◌, at_key, of_kind, in_range, pair_of, interval_of, in_times, intervals_of, without, processors_of, times_of, no_unknown, machine_of_document, machine_of_text, machine_of}
+
+-- a value of which this holds, or a fault that is not want of memory
+abbrev Means : {A : Type 0} → (A → Type 0) → Read A → Type 0
+Means Q (Ok x) = Q x
+Means Q (Err e) = e ≢ Memory
+
+abbrev Any : {A : Type 0} → A → Type 0
+Any x = Unit {0}
+
+then_means : {A B : Type 0} (Q : A → Type 0) (R : B → Type 0) (m : Read A) (f : A → Read B) → Means Q m → ((x : A) → Q x → Means R (f x)) → Means R (m >>= f)
+then_means Q R (Ok x) f h g = g x h
+then_means Q R (Err e) f h g = h
+
+key_means : (name : List ℕ) (o : Option Data) → Means Any (at_key name o)
+key_means name None = λ e. cc
+key_means name (Some d) = tt
+
+kind_means : {A : Type 0} (name : List ℕ) (o : Option A) → Means Any (of_kind name o)
+kind_means name None = λ e. cc
+kind_means name (Some x) = tt
+
+abbrev Within : ℕ → ℕ → ℕ → Type 0
+Within low high n = (low ≤ n) × (n ≤ high)
+
+range_means : (name : List ℕ) (low high : ℕ) (v : ℤ) → Means (Within low high) (in_range name low high v)
+range_means name low high (negsuc n) = λ e. cc
+range_means name low high (pos n) = elim (leb_tells low n) [
+  | inr a ↦ rw a.0 (λ e. cc)
+  | inl a ↦ elim (leb_tells n high) [
+    | inr b ↦ rw (a.0, b.0) (λ e. cc)
+    | inl b ↦ rw (a.0, b.0) (a.1, b.1)
+  ]
+]
+
+interval_means : (name : List ℕ) (o : Option Data) → Means IsTime (interval_of name o)
+interval_means name o =
+    then_means Any IsTime (at_key name o) (λ d. of_kind name (pair_of d) >>= with_ends) (key_means name o)
+    (λ d _. then_means Any IsTime (of_kind name (pair_of d)) with_ends (kind_means name (pair_of d)) ends_mean)
+  where
+    with_least : ℤ × ℤ → ℕ → Read Interval
+    with_least ends least = in_range name least 1000 ends.1 >>= (λ most. Ok (record { least = least; most = most }))
+
+    with_ends : ℤ × ℤ → Read Interval
+    with_ends ends = in_range name 1 1000 ends.0 >>= with_least ends
+
+    least_means : (ends : ℤ × ℤ) (least : ℕ) → Within 1 1000 least → Means IsTime (with_least ends least)
+    least_means ends least h =
+        then_means (Within least 1000) IsTime (in_range name least 1000 ends.1) (λ most. Ok (record { least = least; most = most })) (range_means name least 1000 ends.1)
+        (λ most k. record { low = h.0; order = k.0; high = k.1 })
+
+    ends_mean : (ends : ℤ × ℤ) → Any ends → Means IsTime (with_ends ends)
+    ends_mean ends _ = then_means (Within 1 1000) IsTime (in_range name 1 1000 ends.0) (with_least ends) (range_means name 1 1000 ends.0) (least_means ends)
+
+abbrev AreTimes : ℕ → List Interval → Type 0
+AreTimes n ts = (length ts ≡ n) × AllByRecursion IsTime ts
+
+intervals_mean : (keys : List (List ℕ)) (times : Members) → Means (AreTimes (length keys)) (intervals_of keys times)
+intervals_mean [] times = (refl, tt)
+intervals_mean (key ∷ keys) times =
+    let o : Option Data = get_member key times in
+    then_means IsTime (AreTimes (length (key ∷ keys))) (interval_of (in_times key) o) (λ first. intervals_of keys times >>= (λ rest. Ok (first ∷ rest))) (interval_means (in_times key) o)
+    (λ first h. then_means (AreTimes (length keys)) (AreTimes (length (key ∷ keys))) (intervals_of keys times) (λ rest. Ok (first ∷ rest)) (intervals_mean keys times) (λ rest k. (ap suc k.0, (h, k.1))))
+
+without_means : (told : List ℕ → List ℕ) (o : Option (List ℕ)) → Means Any (without told o)
+without_means told None = tt
+without_means told (Some key) = λ e. cc
+
+processors_mean : (document : Members) → Means (Within 1 64) (processors_of document)
+processors_mean document =
+    let name : List ℕ = codes "processors" in
+    let o : Option Data = get_member name document in
+    then_means Any (Within 1 64) (at_key name o) (λ found. of_kind name (as_integer found) >>= in_range name 1 64) (key_means name o)
+    (λ found _. then_means Any (Within 1 64) (of_kind name (as_integer found)) (in_range name 1 64) (kind_means name (as_integer found)) (λ v _. range_means name 1 64 v))
+
+times_mean : (document : Members) → Means Any (times_of document)
+times_mean document =
+    let name : List ℕ = codes "times" in
+    let o : Option Data = get_member name document in
+    then_means Any Any (at_key name o) (λ found. of_kind name (as_table found)) (key_means name o) (λ found _. kind_means name (as_table found))
+
+unknown_means : (document times : Members) → Means Any (no_unknown document times)
+unknown_means document times =
+    then_means Any Any (without (λ key. key) (first_unknown top_keys (keys_of document))) (λ _. without in_times (first_unknown class_keys (keys_of times)))
+    (without_means (λ key. key) (first_unknown top_keys (keys_of document))) (λ _ _. without_means in_times (first_unknown class_keys (keys_of times)))
+
+-- what a machine keeps
+abbrev Lawful : Machine → Type 0
+Lawful m = IsMachine m.processors m.times
+
+document_means : (document : Members) → Means Lawful (machine_of_document document)
+document_means document = then_means (Within 1 64) Lawful (processors_of document) with_processors (processors_mean document) processors_go
+  where
+    with_intervals : ℕ → Members → List Interval → Read Machine
+    with_intervals processors times intervals = no_unknown document times >>= (λ _. Ok (record { processors = processors; times = intervals }))
+
+    with_times : ℕ → Members → Read Machine
+    with_times processors times = intervals_of class_keys times >>= with_intervals processors times
+
+    with_processors : ℕ → Read Machine
+    with_processors processors = times_of document >>= with_times processors
+
+    intervals_go : (processors : ℕ) → Within 1 64 processors → (times : Members) (intervals : List Interval) → AreTimes 9 intervals → Means Lawful (with_intervals processors times intervals)
+    intervals_go processors h times intervals k =
+        then_means Any Lawful (no_unknown document times) (λ _. Ok (record { processors = processors; times = intervals })) (unknown_means document times)
+        (λ _ _. record { some = h.0; few = h.1; count = k.0; each = k.1 })
+
+    times_go : (processors : ℕ) → Within 1 64 processors → (times : Members) → Any times → Means Lawful (with_times processors times)
+    times_go processors h times _ = then_means (AreTimes 9) Lawful (intervals_of class_keys times) (with_intervals processors times) (intervals_mean class_keys times) (intervals_go processors h times)
+
+    processors_go : (processors : ℕ) → Within 1 64 processors → Means Lawful (with_processors processors)
+    processors_go processors h = then_means Any Lawful (times_of document) (with_times processors) (times_mean document) (times_go processors h)
+
+text_means : (o : Option Members) → Means Lawful (machine_of_text o)
+text_means None = λ e. cc
+text_means (Some document) = document_means document
+
+tested : (b : Bool) (m n : Read Machine) → Means Lawful m → Means Lawful n → Means Lawful (if b then m else n)
+tested true m n h g = h
+tested false m n h g = g
+
+bytes_mean : (bytes : List ℕ) → Means Lawful (machine_of bytes)
+bytes_mean bytes = tested (is_utf8 bytes) (machine_of_text (parse_document bytes)) (Err NotToml) (text_means (parse_document bytes)) (λ e. cc)
+
+pub machine_means : (bytes : List ℕ) (m : Machine) → machine_of bytes ≡ Ok m → IsMachine m.processors m.times
+machine_means bytes m e = subst (Means Lawful) e (bytes_mean bytes)
+
+pub fault_means : (bytes : List ℕ) (x : MachineFault) → machine_of bytes ≡ Err x → x ≢ Memory
+fault_means bytes x e = subst (Means Lawful) e (bytes_mean bytes)
