@@ -3,6 +3,7 @@ use Rattle.std.proofs.Common.{◌≡◌, ◌≤◌, ◌⊎◌, ℕ, List, [], �
 use Rattle.bm_io.specs.Causes.{Rose}
 use Rattle.bm_io.specs.Files.{Held, asking}
 use Rattle.bm_io.proofs.Asking.{asking-nothing}
+use Rattle.bm_io.specs.Sink.{Sent}
 use Rattle.bm_io.specs.declared.sinks.SinkFault.{SinkFault}
 use Rattle.bm_io.specs.declared.sinks.SinkFault.TheVariants.{Failed, Memory}
 use Rattle.bm_course.specs.Course.{Refused, Output, Refuses, Gives, Course, refuse, file, give, judge, accepted, rejected, ◌>>=◌, asks, refuses, gives, IsReading}
@@ -10,42 +11,50 @@ use Rattle.bm_course.specs.Lines.{no_memory, cannot_read, cannot_write, too_long
 use Rattle.bm_course.specs.Limited.{Fits, limited}
 use Rattle.bm_course.specs.Laws.{Bounds}
 use Rattle.bm_course.specs.Goes.{Seen, Reports, Reported, status_after, Ending, done, refused, unread, unwritten, starved, starved_writing, Goes}
-use Rattle.bm_course.specs.Clauses.{HasWritten, IsRefused, IsUnread, IsOfContent, IsRefusal, HasEnded, IsStatus, StopsAtOnce}
+use Rattle.bm_course.specs.Clauses.{HasWritten, IsRefused, IsUnread, IsUnwritten, IsOfContent, IsRefusal, HasEnded, IsStatus, StopsAtOnce}
+
+-- the line was sent up to a write that failed
+abbrev Broke : Option (List ℕ) → Option (List ℕ) → ℕ → ℕ → Refused → Type 0
+Broke e n f g r = Sent {T = Unit {0}} e n r.line (Err Failed) × Rose f g
 
 -- what is reported has its own status, 10 or 11
-pub reported : (e n : Option (List ℕ)) (f g : ℕ) (r : Refused) (status : ℕ) → Reported e n f g r status → (status ≡ r.status) ⊎ (((status ≡ 10) × Rose f g) ⊎ (status ≡ 11))
-reported e n f g r status h = by h.told h.status_is h.rose
+pub reported : (e n : Option (List ℕ)) (f g : ℕ) (r : Refused) (status : ℕ) → Reported e n f g r status → (status ≡ r.status) ⊎ (((status ≡ 10) × Broke e n f g r) ⊎ (status ≡ 11))
+reported e n f g r status h = by h.told h.status_is h.sent h.rose
   where
-    by : (t : Result (Unit {0}) SinkFault) → status ≡ status_after r.status t → (t ≡ Err Failed → Rose f g) → (status ≡ r.status) ⊎ (((status ≡ 10) × Rose f g) ⊎ (status ≡ 11))
-    by (Ok x) e r = inl e
-    by (Err Failed) e r = inr (inl (e, r refl))
-    by (Err Memory) e r = inr (inr e)
+    by : (t : Result (Unit {0}) SinkFault) → status ≡ status_after r.status t → Sent e n r.line t → (t ≡ Err Failed → Rose f g) → (status ≡ r.status) ⊎ (((status ≡ 10) × Broke e n f g r) ⊎ (status ≡ 11))
+    by (Ok x) q s k = inl q
+    by (Err Failed) q s k = inr (inl (q, (s, k refl)))
+    by (Err Memory) q s k = inr (inr q)
 
 -- how a call went, by its status
 pub data Outcome (told : Option Held) (before now : Seen) (course : Course Output) (status : ℕ) : Type 0 where
   was_written : HasWritten told before now course status → Outcome told before now course status
   was_refused : IsRefused told before now course status → Outcome told before now course status
   was_unread : IsUnread told before now course → status ≡ 9 → Outcome told before now course status
-  was_unwritten : Rose before.out_faults now.out_faults ⊎ Rose before.err_faults now.err_faults → status ≡ 10 → Outcome told before now course status
+  was_unwritten : IsUnwritten told before now course → status ≡ 10 → Outcome told before now course status
   was_starved : status ≡ 11 → Outcome told before now course status
 
 module _ (told : Option Held) (before now : Seen) (course : Course Output) (status : ℕ) where
-  by_report : (r : Refused) → Reports before now r status → (status ≡ r.status → Outcome told before now course status) → Outcome told before now course status
-  by_report r h f = elim (reported before.err now.err before.err_faults now.err_faults r status h) [
+  by_report : (contents names : List (List ℕ)) → IsReading told course contents names → (r : Refused) → Reports before now r status → (status ≡ r.status → Outcome told before now course status) → Outcome told before now course status
+  by_report contents names q r h f = elim (reported before.err now.err before.err_faults now.err_faults r status h) [
     | inl e ↦ f e
-    | inr e ↦ elim e [ inl x ↦ was_unwritten (inr x.1) x.0 | inr x ↦ was_starved x ]
+    | inr e ↦ elim e [
+      | inl x ↦ was_unwritten (record { contents = contents; names = names; reading = q; failed = inr (r, x.1.0, x.1.1) }) x.0
+      | inr x ↦ was_starved x
+    ]
   ]
 
   by_ending : (contents names : List (List ℕ)) → IsReading told course contents names → Ending before now course contents names status → Outcome told before now course status
   by_ending contents names r (done o e a t n k) =
       was_written (record { contents = contents; names = names; reading = r; output = o; gives = e; asked = a; out = t; err = n; status_is = k })
   by_ending contents names r (refused f e a o k) =
-      by_report f k (λ s. was_refused (record { contents = contents; names = names; reading = r; refusal = f; refuses = e; asked = a; out = o; reported = k; status_is = s }))
+      by_report contents names r f k (λ s. was_refused (record { contents = contents; names = names; reading = r; refusal = f; refuses = e; asked = a; out = o; reported = k; status_is = s }))
   by_ending contents names r (unread n m e a f o k) =
-      by_report (cannot_read n) k (λ s. was_unread (record { contents = contents; names = names; reading = r; name = n; most = m; asks = e; asked = a; rose = f; out = o }) s)
-  by_ending contents names r (unwritten o e a t f k) = by_report cannot_write k (λ s. was_unwritten (inl f) s)
-  by_ending contents names r (starved a o k) = by_report no_memory k was_starved
-  by_ending contents names r (starved_writing o e a t k) = by_report no_memory k was_starved
+      by_report contents names r (cannot_read n) k (λ s. was_unread (record { contents = contents; names = names; reading = r; name = n; most = m; asks = e; asked = a; rose = f; out = o }) s)
+  by_ending contents names r (unwritten o e a t f k) =
+      by_report contents names r cannot_write k (λ s. was_unwritten (record { contents = contents; names = names; reading = r; failed = inl (o, e, a, t, f) }) s)
+  by_ending contents names r (starved a o k) = by_report contents names r no_memory k was_starved
+  by_ending contents names r (starved_writing o e a t k) = by_report contents names r no_memory k was_starved
 
   pub outcome : Goes told before now course status → Outcome told before now course status
   outcome h = by_ending h.contents h.names h.reading h.ending
@@ -93,7 +102,7 @@ module _ (told : Option Held) (before now : Seen) (course : Course Output) (stat
   unread_only (was_unwritten r e) h = absurd (omega arith)
   unread_only (was_starved e) h = absurd (omega arith)
 
-  pub unwritten_only : Outcome told before now course status → status ≡ 10 → Rose before.out_faults now.out_faults ⊎ Rose before.err_faults now.err_faults
+  pub unwritten_only : Outcome told before now course status → status ≡ 10 → IsUnwritten told before now course
   unwritten_only (was_written w) h = absurd (ended_few 10 (omega arith) (omega arith) (output_status w) h)
   unwritten_only (was_refused r) h = absurd (refused_few 10 (omega arith) (omega arith) (refusal_status r) h)
   unwritten_only (was_unread u e) h = absurd (omega arith)
@@ -112,8 +121,7 @@ module _ (told : Option Held) (before now : Seen) (course : Course Output) (stat
   faultless (was_written w) f o e = inl w
   faultless (was_refused r) f o e = inr (inl r)
   faultless (was_unread u k) f o e = absurd (f u.rose)
-  faultless (was_unwritten (inl r) k) f o e = absurd (o r)
-  faultless (was_unwritten (inr r) k) f o e = absurd (e r)
+  faultless (was_unwritten u k) f o e = elim u.failed [ inl x ↦ absurd (o x.4) | inr x ↦ absurd (e x.2) ]
   faultless (was_starved k) f o e = inr (inr k)
 
 -- words that are refused at once

@@ -1,9 +1,10 @@
 -- What a call comes to, said of each status and of what the held files lead to.
-use Rattle.std.specs.Prelude.{ℕ, ◌≡◌, ◌≤◌, ◌⊎◌, List, [], ◌∷◌, ◌++◌, Option, Some}
+use Rattle.std.specs.Prelude.{ℕ, ◌≡◌, ◌≤◌, ◌⊎◌, List, [], ◌∷◌, ◌++◌, Option, Some, Err}
 use Rattle.std.specs.List.{concat}
 use Rattle.bm_io.specs.Causes.{Rose}
 use Rattle.bm_io.specs.Files.{Held, asking}
-use Rattle.bm_io.specs.Sink.{Takes, TakesPart, TakesWhole}
+use Rattle.bm_io.specs.Sink.{Takes, TakesPart, TakesWhole, Sent}
+use Rattle.bm_io.specs.declared.sinks.SinkFault.TheVariants.{Failed}
 use Rattle.bm_course.specs.Course.{Refused, Output, Step, Asks, Refuses, Gives, Course, IsReading}
 use Rattle.bm_course.specs.Lines.{no_memory, cannot_read, cannot_write}
 use Rattle.bm_course.specs.Goes.{Seen, Reports}
@@ -43,6 +44,22 @@ pub record IsUnread (told : Option Held) (before now : Seen) (course : Course Ou
   pub asked : now.asked ≡ asking before.asked (names ++ name ∷ [])
   pub rose : Rose before.file_faults now.file_faults
   pub out : now.out ≡ before.out
+
+-- A write of a line of the course's text failed.
+abbrev pub FailsText : Seen → Seen → Course Output → List (List ℕ) → List (List ℕ) → Type 0
+FailsText before now course contents names =
+    (o : Output) × (course contents (Gives o [])) × (now.asked ≡ asking before.asked names) × TakesPart before.out now.out o.lines × Rose before.out_faults now.out_faults
+
+-- A write of the line of a refusal, or of want of memory, failed.
+abbrev pub FailsLine : Seen → Seen → Type 0
+FailsLine before now = (r : Refused) × Sent {T = Unit {0}} before.err now.err r.line (Err Failed) × Rose before.err_faults now.err_faults
+
+-- After the contents that were read a write failed.
+pub record IsUnwritten (told : Option Held) (before now : Seen) (course : Course Output) : Type 0 where
+  pub contents : List (List ℕ)
+  pub names : List (List ℕ)
+  pub reading : IsReading told course contents names
+  pub failed : FailsText before now course contents names ⊎ FailsLine before now
 
 -- the statuses of refusals that contents are the cause of
 abbrev pub IsOfContent : ℕ → Type 0

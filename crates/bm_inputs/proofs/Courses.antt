@@ -120,11 +120,15 @@ standard_lawful : Lawful standard
 standard_lawful =
     let one : IsTime (interval 1 1) = lawful_time 1 1 (omega arith) (omega arith) (omega arith) in
     let four : IsTime (interval 1 4) = lawful_time 1 4 (omega arith) (omega arith) (omega arith) in
+    let two : IsTime (interval 1 2) = lawful_time 1 2 (omega arith) (omega arith) (omega arith) in
+    let six : IsTime (interval 1 6) = lawful_time 1 6 (omega arith) (omega arith) (omega arith) in
+    let of_mul : IsTime (interval 2 3) = lawful_time 2 3 (omega arith) (omega arith) (omega arith) in
+    let of_div : IsTime (interval 4 12) = lawful_time 4 12 (omega arith) (omega arith) (omega arith) in
     record {
       some = omega arith;
       few = omega arith;
       count = refl;
-      each = (one, four, lawful_time 1 2 (omega arith) (omega arith) (omega arith), lawful_time 1 6 (omega arith) (omega arith) (omega arith), four, one, lawful_time 2 3 (omega arith) (omega arith) (omega arith), lawful_time 4 12 (omega arith) (omega arith) (omega arith), one, tt);
+      each = (one, (four, (two, (six, (four, (one, (of_mul, (of_div, (one, tt)))))))));
     }
 
 abbrev pub MachinesLawful : Type 0

@@ -31,7 +31,7 @@ fn machine_of_file<'a, F: Files>(
         Err(stop) => Err(stop),
         Ok(bytes) => match read_machine(alloc, &bytes) {
             Ok(spec) => Ok(spec),
-            Err(fault) => match machine_refusal(alloc, &fault) {
+            Err(fault) => match machine_refusal(fault) {
                 Some(refusal) => Err(Stop::Refused(refusal)),
                 None => Err(Stop::Memory),
             },

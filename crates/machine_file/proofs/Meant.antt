@@ -1,5 +1,5 @@
 -- What a machine file means: a machine, or a fault that is not want of memory.
-use Rattle.std.proofs.Common.{◌≡◌, ◌≢◌, ◌≤◌, inl, inr, ℕ, suc, ℤ, pos, negsuc, List, [], ◌∷◌, length, Bool, true, false, Option, Some, None, Ok, Err, refl, ap, subst, if◌then◌else◌}
+use Rattle.std.proofs.Common.{◌≡◌, ◌≢◌, ◌≤◌, inl, inr, ℕ, suc, ℤ, pos, negsuc, List, [], ◌∷◌, length, Bool, true, false, Option, Some, None, Ok, Err, refl, ap, subst, ◌∙◌, if◌then◌else◌}
 use Rattle.std.specs.Prelude.{codes}
 use Rattle.std.specs.List.{AllByRecursion}
 use Rattle.std.specs.Str.{is_utf8}
@@ -97,6 +97,10 @@ unknown_means document times =
     then_means Any Any (without (λ key. key) (first_unknown top_keys (keys_of document))) (λ _. without in_times (first_unknown class_keys (keys_of times)))
     (without_means (λ key. key) (first_unknown top_keys (keys_of document))) (λ _ _. without_means in_times (first_unknown class_keys (keys_of times)))
 
+class_count : length class_keys ≡ 9
+unfolding class_keys
+class_count = refl
+
 -- what a machine keeps
 abbrev Lawful : Machine → Type 0
 Lawful m = IsMachine m.processors m.times
@@ -113,13 +117,13 @@ document_means document = then_means (Within 1 64) Lawful (processors_of documen
     with_processors : ℕ → Read Machine
     with_processors processors = times_of document >>= with_times processors
 
-    intervals_go : (processors : ℕ) → Within 1 64 processors → (times : Members) (intervals : List Interval) → AreTimes 9 intervals → Means Lawful (with_intervals processors times intervals)
+    intervals_go : (processors : ℕ) → Within 1 64 processors → (times : Members) (intervals : List Interval) → AreTimes (length class_keys) intervals → Means Lawful (with_intervals processors times intervals)
     intervals_go processors h times intervals k =
         then_means Any Lawful (no_unknown document times) (λ _. Ok (record { processors = processors; times = intervals })) (unknown_means document times)
-        (λ _ _. record { some = h.0; few = h.1; count = k.0; each = k.1 })
+        (λ _ _. record { some = h.0; few = h.1; count = k.0 ∙ class_count; each = k.1 })
 
     times_go : (processors : ℕ) → Within 1 64 processors → (times : Members) → Any times → Means Lawful (with_times processors times)
-    times_go processors h times _ = then_means (AreTimes 9) Lawful (intervals_of class_keys times) (with_intervals processors times) (intervals_mean class_keys times) (intervals_go processors h times)
+    times_go processors h times _ = then_means (AreTimes (length class_keys)) Lawful (intervals_of class_keys times) (with_intervals processors times) (intervals_mean class_keys times) (intervals_go processors h times)
 
     processors_go : (processors : ℕ) → Within 1 64 processors → Means Lawful (with_processors processors)
     processors_go processors h = then_means Any Lawful (times_of document) (with_times processors) (times_mean document) (times_go processors h)

@@ -21,7 +21,7 @@ returns-in-Ok-read_machine-clause-comes g c =
 
 pub returns-in-Some-clause-comes : goal.returns-in-Some-clause-comes
 returns-in-Some-clause-comes g c =
-    let s : machine_refused c.in-Err-read_machine.fault ≡ Some (refused_as c.in-Some.refusal) = c.in-Some.ensures in
+    let s : machine_refused c.in-Err-read_machine.fault ≡ Some (refused_as c.in-Some.refusal) = sym c.in-Some.ensures in
     let m : machine_of c.deref.result.now ≡ Err c.in-Err-read_machine.fault = elim c.in-Err-read_machine.ensures [
       | inl x ↦ sym x
       | inr x ↦

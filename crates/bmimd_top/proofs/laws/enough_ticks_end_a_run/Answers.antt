@@ -1,4 +1,4 @@
-use Rattle.std.proofs.Common.{◌≡◌, ◌≤◌, List, ap, arith}
+use Rattle.std.proofs.Common.{◌≡◌, ◌∙◌, ◌≤◌, List, ap, arith}
 use Rattle.bm_base.specs.Memory.{initial}
 use Rattle.unit_law.specs.Steps.{Action, state_after, IsRun}
 use Rattle.src_meaning.proofs.Kept.{IsMemoryOf-initial}
