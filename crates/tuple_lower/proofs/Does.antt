@@ -1,16 +1,16 @@
 -- The tuples of straight statements do what the statements mean.
-use Rattle.std.proofs.Common.{◌≡◌, ◌≤◌, ◌+◌, ◌-◌, ◌&&◌, ℕ, pos, Bool, true, false, List, [], ◌∷◌, ◌++◌, length, Some, None, refl, sym, ap, subst, ◌∙◌, arith, append_assoc, append-nil, length-append}
+use Rattle.std.proofs.Common.{◌≡◌, ◌≤◌, ◌+◌, ◌&&◌, ℕ, pos, Bool, true, false, List, [], ◌∷◌, ◌++◌, length, Some, None, refl, sym, ap, subst, ◌∙◌, arith, append_assoc, append-nil, length-append}
 use Rattle.std.specs.Prelude.{if◌then◌else◌, nat_le}
 use Rattle.std.proofs.lemmas.List.{length-replicate}
 use Rattle.std.proofs.lemmas.Bool.Decides.{nat_tests}
-use Rattle.bm_base.specs.Memory.{Content, set_variable}
+use Rattle.bm_base.specs.Memory.{Content, set_variable, set_element}
 use Rattle.src_names.specs.RProgram.{RProgram}
 use Rattle.src_names.specs.declared.resolved.RExpr.{RExpr}
 use Rattle.src_names.specs.declared.resolved.RStmt.{RStmt}
 use Rattle.src_names.specs.declared.resolved.RStmt.TheVariants as s
 use Rattle.src_meaning.specs.declared.evaluate.End.TheVariants.{Done}
 use Rattle.src_meaning.specs.Meaning.{Outcome, Action, done, behind, and_then, value_of, statement, statements}
-use Rattle.src_meaning.proofs.Equations.{statement-assign, statement-print}
+use Rattle.src_meaning.proofs.Equations.{statement-assign, statement-set, statement-print}
 use Rattle.src_meaning.proofs.Algebra.{and_then-done, go_on}
 use Rattle.src_meaning.proofs.Induct.{induct}
 use Rattle.tuple_ir.specs.World.{World, cell, do_tuple, serial, at_first}
@@ -21,7 +21,7 @@ use Rattle.tuple_ir.specs.declared.tuple.Tuple.TheVariants as tuple
 use Rattle.tuple_lower.specs.Lowered.{last_of, expr_tuples, stmt_tuples, body_tuples}
 use Rattle.tuple_lower.specs.Straight.{straight_stmt, straight_body, straight_block, are_variables}
 use Rattle.tuple_lower.specs.Sound.{MeansTheSame}
-use Rattle.tuple_lower.proofs.Equations.{tuples-assign, tuples-print, straight-set, straight-if, straight-while}
+use Rattle.tuple_lower.proofs.Equations.{tuples-assign, tuples-set, tuples-print, straight-set, straight-if, straight-while}
 use Rattle.tuple_lower.proofs.Serially.{after_all, after_all-append, serial-is}
 use Rattle.tuple_lower.proofs.Gives.{expr_gives}
 
@@ -32,7 +32,7 @@ pub record Does (before after : World) (o : Outcome) : Type 0 where
   pub more_output : after.output ≡ before.output ++ o.output
   pub many : length after.cells ≡ 128
 
-abbrev RowDoes : (ℕ → List t.Tuple) → Action → Type 0
+abbrev pub RowDoes : (ℕ → List t.Tuple) → Action → Type 0
 RowDoes f a = (n : ℕ) (w : World) (turns : ℕ) → length w.cells ≡ 128 → n + length (f n) ≤ 128 → Does w (after_all n (f n) w) (a turns w.memory)
 
 abbrev StmtDoes : RStmt → Type 0
@@ -42,8 +42,8 @@ StmtDoes z = straight_stmt z ≡ true → RowDoes (stmt_tuples z) (statement z)
 with_last : (n : ℕ) (us : List t.Tuple) (u : t.Tuple) (w : World) → after_all n (us ++ u ∷ []) w ≡ do_tuple (n + length us) (Some u) (after_all n us w)
 with_last n us u w = after_all-append n us (u ∷ []) w
 
-assign_does : (x : ℕ) (v : RExpr) → StmtDoes (s.Assign x v)
-assign_does x v straight = rw (tuples-assign x v, statement-assign x v) (λ n w turns c b.
+pub assign_row : (x : ℕ) (v : RExpr) → RowDoes (stmt_tuples (s.Assign x v)) (statement (s.Assign x v))
+assign_row x v = rw (tuples-assign x v, statement-assign x v) (λ n w turns c b.
     let us = expr_tuples v n in
     let u = tuple.Store x (last_of n us) in
     let g = expr_gives v n w c (omega (arith, length-append us (u ∷ []))) in
@@ -55,8 +55,32 @@ assign_does x v straight = rw (tuples-assign x v, statement-assign x v) (λ n w 
     } in
     subst (λ y. Does w y (done turns (set_variable w.memory x (value_of v w.memory)))) (sym (with_last n us u w)) here)
 
-print_does : (v : RExpr) → StmtDoes (s.Print v)
-print_does v straight = rw (tuples-print v, statement-print v) (λ n w turns c b.
+-- an element takes its value once the tuples of the index and of the value have run
+pub set_row : (x : ℕ) (i v : RExpr) → RowDoes (stmt_tuples (s.SetElement x i v)) (statement (s.SetElement x i v))
+set_row x i v = rw (tuples-set x i v, statement-set x i v) (λ n w turns c b.
+    let us = expr_tuples i n in
+    let m = n + length us in
+    let vs = expr_tuples v m in
+    let u = tuple.StoreEl x (last_of n us) (last_of m vs) in
+    let l1 = length-append us (vs ++ u ∷ []) in
+    let l2 = length-append vs (u ∷ []) in
+    let g = expr_gives i n w c (omega (arith, l1)) in
+    let mid = after_all n us w in
+    let h = expr_gives v m mid g.many (omega (arith, l1, l2)) in
+    let far = after_all m vs mid in
+    let index : cell far (last_of n us) ≡ value_of i w.memory = h.kept (last_of n us) (let k = g.some in omega (arith, k)) ∙ g.value in
+    let value : cell far (last_of m vs) ≡ value_of v w.memory = h.value ∙ ap (value_of v) g.same_memory in
+    let ran : after_all n (us ++ (vs ++ u ∷ [])) w ≡ do_tuple (m + length vs) (Some u) far = after_all-append n us (vs ++ u ∷ []) w ∙ after_all-append m vs (u ∷ []) mid in
+    let here : Does w (do_tuple (m + length vs) (Some u) far) (done turns (set_element w.memory x (value_of i w.memory) (value_of v w.memory))) = record {
+      end = refl;
+      same_memory = ap (λ q. set_element q x (cell far (last_of n us)) (cell far (last_of m vs))) (h.same_memory ∙ g.same_memory) ∙ ap (λ q. set_element w.memory x q (cell far (last_of m vs))) index ∙ ap (set_element w.memory x (value_of i w.memory)) value;
+      more_output = h.same_output ∙ g.same_output ∙ sym (append-nil w.output);
+      many = h.many;
+    } in
+    subst (λ y. Does w y (done turns (set_element w.memory x (value_of i w.memory) (value_of v w.memory)))) (sym ran) here)
+
+pub print_row : (v : RExpr) → RowDoes (stmt_tuples (s.Print v)) (statement (s.Print v))
+print_row v = rw (tuples-print v, statement-print v) (λ n w turns c b.
     let us = expr_tuples v n in
     let u = tuple.Print (last_of n us) in
     let g = expr_gives v n w c (omega (arith, length-append us (u ∷ []))) in
@@ -73,9 +97,9 @@ not_both b f y = let no : false ≡ true = sym f ∙ y in cc
 
 stmt_does : (z : RStmt) → StmtDoes z
 stmt_does z = induct StmtDoes (record {
-  assign = assign_does;
+  assign = λ x v straight. assign_row x v;
   set = λ x i v straight. absurd (not_both (straight_stmt (s.SetElement x i v)) (straight-set x i v) straight);
-  print = print_does;
+  print = λ v straight. print_row v;
   choose = λ c ones others h k straight. absurd (not_both (straight_stmt (s.If c ones others)) (straight-if c ones others) straight);
   repeat = λ c body h straight. absurd (not_both (straight_stmt (s.While c body)) (straight-while c body) straight);
 }) z

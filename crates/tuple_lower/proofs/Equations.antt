@@ -8,6 +8,7 @@ use Rattle.src_names.specs.declared.resolved.RExpr.TheVariants as e
 use Rattle.src_names.specs.declared.resolved.RStmt.{RStmt, RStmt-F}
 use Rattle.src_names.specs.declared.resolved.RStmt.TheFolds.{fold-roll-RStmt}
 use Rattle.src_names.specs.declared.resolved.RStmt.TheVariants as s
+use Rattle.tuple_lower.specs.Blocks.{Lowering, put, choice, repetition, lower_step, lower_stmt, lower_body}
 use Rattle.tuple_lower.specs.Lowered.{Row, expr_tuples, expr_step, stmt_tuples, stmt_step}
 use Rattle.tuple_lower.specs.Straight.{straight_expr, expr_test, straight_stmt, stmt_test}
 
@@ -34,6 +35,10 @@ tuples-two op a b = ap expr_tuples (sym (e.rolls-Two op a b)) ∙ fold-roll-RExp
 pub tuples-assign : (x : ℕ) (v : RExpr) → stmt_tuples (s.Assign x v) ≡ stmt_step (RStmt-F.Assign x v)
 unfolding stmt_tuples
 tuples-assign x v = ap stmt_tuples (sym (s.rolls-Assign x v)) ∙ fold-roll-RStmt Row stmt_step _
+
+pub tuples-set : (x : ℕ) (i v : RExpr) → stmt_tuples (s.SetElement x i v) ≡ stmt_step (RStmt-F.SetElement x i v)
+unfolding stmt_tuples
+tuples-set x i v = ap stmt_tuples (sym (s.rolls-SetElement x i v)) ∙ fold-roll-RStmt Row stmt_step _
 
 pub tuples-print : (v : RExpr) → stmt_tuples (s.Print v) ≡ stmt_step (RStmt-F.Print v)
 unfolding stmt_tuples
@@ -78,3 +83,23 @@ straight-if c ones others = ap straight_stmt (sym (s.rolls-If c ones others)) �
 pub straight-while : (c : RExpr) (body : List RStmt) → straight_stmt (s.While c body) ≡ stmt_test (RStmt-F.While c (map straight_stmt body))
 unfolding straight_stmt
 straight-while c body = ap straight_stmt (sym (s.rolls-While c body)) ∙ fold-roll-RStmt Bool stmt_test _
+
+pub lower-assign : (x : ℕ) (v : RExpr) → lower_stmt (s.Assign x v) ≡ put (stmt_step (RStmt-F.Assign x v))
+unfolding lower_stmt
+lower-assign x v = ap lower_stmt (sym (s.rolls-Assign x v)) ∙ fold-roll-RStmt Lowering lower_step _
+
+pub lower-set : (x : ℕ) (i v : RExpr) → lower_stmt (s.SetElement x i v) ≡ put (stmt_step (RStmt-F.SetElement x i v))
+unfolding lower_stmt
+lower-set x i v = ap lower_stmt (sym (s.rolls-SetElement x i v)) ∙ fold-roll-RStmt Lowering lower_step _
+
+pub lower-print : (v : RExpr) → lower_stmt (s.Print v) ≡ put (stmt_step (RStmt-F.Print v))
+unfolding lower_stmt
+lower-print v = ap lower_stmt (sym (s.rolls-Print v)) ∙ fold-roll-RStmt Lowering lower_step _
+
+pub lower-if : (c : RExpr) (ones others : List RStmt) → lower_stmt (s.If c ones others) ≡ choice (expr_tuples c) (lower_body ones) (lower_body others)
+unfolding lower_stmt
+lower-if c ones others = ap lower_stmt (sym (s.rolls-If c ones others)) ∙ fold-roll-RStmt Lowering lower_step _
+
+pub lower-while : (c : RExpr) (body : List RStmt) → lower_stmt (s.While c body) ≡ repetition (expr_tuples c) (lower_body body)
+unfolding lower_stmt
+lower-while c body = ap lower_stmt (sym (s.rolls-While c body)) ∙ fold-roll-RStmt Lowering lower_step _

@@ -1,5 +1,5 @@
 -- The tuples of straight statements are sound.
-use Rattle.std.proofs.Common.{◌≡◌, ◌≤◌, ◌+◌, ◌-◌, ◌||◌, ℕ, ℤ, zero, suc, Bool, true, false, List, [], ◌∷◌, ◌++◌, length, Some, nat_eq, refl, sym, subst, arith, append_assoc, append-nil, length-append, inl, inr, ◌⊎◌}
+use Rattle.std.proofs.Common.{◌≡◌, ◌≤◌, ◌+◌, ◌||◌, ℕ, ℤ, zero, suc, Bool, true, false, List, [], ◌∷◌, ◌++◌, length, Some, nat_eq, refl, sym, subst, arith, append_assoc, append-nil, length-append, inl, inr, ◌⊎◌}
 use Rattle.std.specs.Prelude.{slice_get}
 use Rattle.std.proofs.lemmas.Bool.Decides.{nat_tests}
 use Rattle.bm_base.specs.declared.word.Un.{Un}
@@ -34,13 +34,13 @@ seam [] u us = refl
 seam (p ∷ pre) u us = seam pre u us
 
 -- before a later number of a longer row
-still_before : (xs ys : List t.Tuple) (i j c : ℕ) → i ≤ j → IsValueBefore xs i c → IsValueBefore (xs ++ ys) j c
+pub still_before : (xs ys : List t.Tuple) (i j c : ℕ) → i ≤ j → IsValueBefore xs i c → IsValueBefore (xs ++ ys) j c
 still_before xs ys i j c l h = let below = h.0 in (omega (arith, below, l), (h.1.0, get_left xs ys c h.1.0 h.1.1, h.1.2))
 
-equal_of : (i c : ℕ) → nat_eq i c ≡ true → i ≡ c
+pub equal_of : (i c : ℕ) → nat_eq i c ≡ true → i ≡ c
 equal_of i c h = grind (arith, nat_tests)
 
-either : (a b : Bool) → (a || b) ≡ true → (a ≡ true) ⊎ (b ≡ true)
+pub either : (a b : Bool) → (a || b) ≡ true → (a ≡ true) ⊎ (b ≡ true)
 either true b h = inl refl
 either false b h = inr h
 
@@ -53,7 +53,7 @@ module _ (names : List Entry) where
   SoundFrom pre [] = Unit {0}
   SoundFrom pre (u ∷ us) = IsTupleSound names pre (length pre) u × SoundFrom (pre ++ u ∷ []) us
 
-  sound-append : (pre us vs : List t.Tuple) → SoundFrom pre us → SoundFrom (pre ++ us) vs → SoundFrom pre (us ++ vs)
+  pub sound-append : (pre us vs : List t.Tuple) → SoundFrom pre us → SoundFrom (pre ++ us) vs → SoundFrom pre (us ++ vs)
   sound-append pre [] vs h k = subst (λ p. SoundFrom p vs) (append-nil pre) k
   sound-append pre (u ∷ us) vs h k = (h.0, sound-append (pre ++ u ∷ []) us vs h.1 (subst (λ p. SoundFrom p vs) (sym (append_assoc pre (u ∷ []) us)) k))
 
@@ -95,7 +95,7 @@ module _ (names : List Entry) where
       }
 
   -- the cell of the value of the tuples so far
-  value_cell : (pre us : List t.Tuple) (c : ℕ) → SoundExpr pre us → last_of (length pre) us ≡ c → IsValueBefore (pre ++ us) (length (pre ++ us)) c
+  pub value_cell : (pre us : List t.Tuple) (c : ℕ) → SoundExpr pre us → last_of (length pre) us ≡ c → IsValueBefore (pre ++ us) (length (pre ++ us)) c
   value_cell pre us c h q =
       let end : length pre + length us ≡ length (pre ++ us) = omega (arith, length-append pre us) in
       subst (λ j. IsValueBefore (pre ++ us) j c) end (subst (λ k. IsValueBefore (pre ++ us) (length pre + length us) k) q h.last)
@@ -154,7 +154,7 @@ module _ (names : List Entry) where
   expr_sound (r.two {op = op} {a = a} {b = b} h k) = two_operands_sound op a b (expr_sound h) (expr_sound k)
 
   -- the last tuple of a statement, which uses the value
-  last_sound : (pre us : List t.Tuple) (u : t.Tuple) → SoundExpr pre us → ((c : ℕ) → uses u c ≡ true → last_of (length pre) us ≡ c) → names_rightly names u → SoundFrom pre (us ++ u ∷ [])
+  pub last_sound : (pre us : List t.Tuple) (u : t.Tuple) → SoundExpr pre us → ((c : ℕ) → uses u c ≡ true → last_of (length pre) us ≡ c) → names_rightly names u → SoundFrom pre (us ++ u ∷ [])
   last_sound pre us u h q d = sound-append pre us (u ∷ []) h.rows (record { operands = λ c k. value_cell pre us c h (q c k); names_right = d }, tt)
 
   stmt_sound : {z : RStmt} → RightStmt names z → (pre : List t.Tuple) → straight_stmt z ≡ true → SoundFrom pre (stmt_tuples z (length pre))

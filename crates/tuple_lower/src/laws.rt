@@ -1,5 +1,6 @@
 // Laws of lowered programs.
-ghost use Rattle.tuple_lower.specs.Sound.{BlocksMeanPrograms, BlocksAreSound};
+ghost use Rattle.tuple_lower.specs.Means.{BlocksEnd, BlocksKeepUp, BlocksKeepBack, BlocksKeepPace};
+ghost use Rattle.tuple_lower.specs.Sound.{BlocksMeanPrograms, BlocksAreSound, LoweredAreSound};
 
 /// The serial meaning of the block of a straight program is what the program means, with any number
 /// of turns and from every memory: the same memory and the same output. Its operands are earlier
@@ -7,4 +8,16 @@ ghost use Rattle.tuple_lower.specs.Sound.{BlocksMeanPrograms, BlocksAreSound};
 pub fn straight_blocks_mean_their_programs()
     ensures same { BlocksMeanPrograms }
     ensures sound { BlocksAreSound }
+{}
+
+/// The serial meaning of the blocks of a program is what the program means, from every memory: they
+/// end as the source ends, their output keeps up with the source's, and their output and their end
+/// come from the source. Each has at most 128 tuples; operands and the cell of an `if` are earlier
+/// tuples that give values, names are of the right kind, and each `goto` and `if` leads to a block.
+pub fn lowered_blocks_mean_their_programs()
+    ensures ends { BlocksEnd }
+    ensures keeps_up { BlocksKeepUp }
+    ensures keeps_back { BlocksKeepBack }
+    ensures keeps_pace { BlocksKeepPace }
+    ensures sound { LoweredAreSound }
 {}

@@ -1,12 +1,16 @@
-//! From a resolved program to its tuples: so far for straight programs, which have one block.
+//! From a resolved program to its blocks of tuples.
 //!
-//! [`straight`] gives that block, which means what the program means.
+//! [`lower`] gives the blocks of a program. [`straight`] gives the one block of a straight program,
+//! which means what the program means.
 #![tactic(auto)]
 
+mod draft;
 mod laws;
-mod lower;
+mod lowering;
+mod one_block;
 #[cfg(test)]
 mod tests;
 
 pub use laws::straight_blocks_mean_their_programs;
-pub use lower::straight;
+pub use lowering::lower;
+pub use one_block::straight;

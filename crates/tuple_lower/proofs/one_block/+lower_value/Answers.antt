@@ -2,7 +2,7 @@ use Rattle.std.proofs.Common.{rules, ◌∙◌, sym, length, w64, to_z, of_z, Fi
 use Rattle.std.proofs.lemmas.Int.{to_z-of_z}
 use Rattle.tuple_lower.specs.Lowered.{expr_tuples}
 use Rattle.tuple_lower.proofs.Placing.{operator_none, left_none, right_none, both, number, variable, element_none, one_none}
-use Rattle.tuple_lower.proofs.lower.+lower_value.Goals as goal
+use Rattle.tuple_lower.proofs.one_block.+lower_value.Goals as goal
 
 pub returns-then-not-is_plain : goal.returns-then-not-is_plain
 returns-then-not-is_plain t c =

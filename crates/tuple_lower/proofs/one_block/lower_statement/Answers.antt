@@ -2,7 +2,7 @@ use Rattle.std.proofs.Common.{length}
 use Rattle.tuple_ir.specs.declared.tuple.Tuple.TheVariants as tuple
 use Rattle.tuple_lower.specs.Lowered.{stmt_tuples}
 use Rattle.tuple_lower.proofs.Statements.{assign_ends, print_ends, value_none, value_ended, set_none, if_none, while_none}
-use Rattle.tuple_lower.proofs.lower.lower_statement.Goals as goal
+use Rattle.tuple_lower.proofs.one_block.lower_statement.Goals as goal
 
 pub returns-in_default : goal.returns-in_default
 returns-in_default c =

@@ -1,6 +1,6 @@
 use Rattle.std.proofs.Common.{◌≤◌, length, drop}
 use Rattle.tuple_lower.proofs.Statements.{Continues}
-use Rattle.tuple_lower.proofs.lower.lower_body.Given as goal
+use Rattle.tuple_lower.proofs.one_block.lower_body.Given as goal
 
 abbrev pub invariant-loop-stmt : goal.invariant-loop-stmt
 invariant-loop-stmt l = record {

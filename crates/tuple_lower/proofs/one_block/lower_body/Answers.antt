@@ -1,5 +1,5 @@
 use Rattle.tuple_lower.proofs.Statements.{first_refused, first_placed, room_after, all_placed}
-use Rattle.tuple_lower.proofs.lower.lower_body.Goals as goal
+use Rattle.tuple_lower.proofs.one_block.lower_body.Goals as goal
 
 pub returns : goal.returns
 returns c = all_placed c.args.body.now c.loop-stmt.stmt-index c.loop-stmt.tuples c.args.tuples.now c.loop-stmt-test.false c.loop-stmt.invariant.few c.loop-stmt.invariant.rest
