@@ -4,6 +4,7 @@ pub mod Growing
 pub mod Induct
 pub mod Kept
 pub mod Lawful
+pub mod Loops
 pub mod Runs
 pub mod Suits
 pub mod Taking

@@ -3,7 +3,7 @@ ghost use Rattle.std.specs.Prelude.{List};
 ghost use Rattle.bm_base.specs.Entry.{Entry};
 ghost use Rattle.bm_base.specs.Memory.{initial};
 ghost use Rattle.tuple_ir.specs.Memories.{IsMemoryOf};
-ghost use Rattle.src_meaning.specs.Laws.{TurnsAddOutput, DoneStays};
+ghost use Rattle.src_meaning.specs.Laws.{TurnsAddOutput, DoneStays, LoopsGoRound};
 
 /// With one turn more the output of a program goes on where it ended; an outcome that is done stays
 /// the same with more turns.
@@ -15,4 +15,10 @@ pub fn turns_only_add()
 /// The declared values are a memory of the names: what `Store::new` gives may be evaluated on.
 pub fn declared_values_are_a_memory()
     ensures { (names : List Entry) → IsMemoryOf names (initial names) }
+{}
+
+/// A loop is done where its test is 0. Where the test is not 0, more is to come if no turn is left;
+/// otherwise one turn is spent, the body runs, and then the same loop again.
+pub fn loops_go_round()
+    ensures { LoopsGoRound }
 {}
