@@ -301,6 +301,7 @@ fn what_is_too_much_is_refused(rt: HostRuntime) -> Result<(), Fail> {
     let alloc = rt.alloc();
     let many = repeated(alloc, b"var x;", 1025)?;
     assert!(rt; evaluated(&rt, &many, "9", 3, "", "error 11: 1025 names\n")?);
+    let most = repeated(alloc, b" ", 262144)?;
     let long = repeated(alloc, b" ", 262145)?;
     assert!(rt;
         evaluated(
@@ -312,7 +313,7 @@ fn what_is_too_much_is_refused(rt: HostRuntime) -> Result<(), Fail> {
             "error 34: p is longer than 262144 bytes\n"
         )?
     );
-    assert!(rt; evaluated(&rt, &long[..262144], "9", 0, "done\n", "")?);
+    assert!(rt; evaluated(&rt, &most, "9", 0, "done\n", "")?);
     Ok(())
 }
 
