@@ -11,6 +11,6 @@ mod one_block;
 #[cfg(test)]
 mod tests;
 
-pub use laws::straight_blocks_mean_their_programs;
+pub use laws::{lowered_blocks_mean_their_programs, straight_blocks_mean_their_programs};
 pub use lowering::lower;
 pub use one_block::straight;
