@@ -1,5 +1,5 @@
 -- Induction over expressions, by the cases of the source.
-use Rattle.std.proofs.Common.{◌≡◌, ℕ, ℤ, sym, subst}
+use Rattle.std.proofs.Common.{ℕ, ℤ, sym, subst}
 use Rattle.bm_base.specs.declared.word.Un.{Un}
 use Rattle.bm_base.specs.declared.word.Bin.{Bin}
 use Rattle.src_names.specs.declared.resolved.RExpr.{RExpr, RExpr-F, roll-RExpr, map-RExpr}

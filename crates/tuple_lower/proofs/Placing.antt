@@ -1,19 +1,17 @@
 -- Tuples that the code puts behind others.
-use Rattle.std.proofs.Common.{◌≡◌, ◌≢◌, ◌<◌, ◌≤◌, ◌+◌, ◌-◌, ◌&&◌, ℕ, ℤ, suc, Bool, true, false, List, [], ◌∷◌, ◌++◌, length, Option, Some, None, Result, Ok, Err, refl, sym, ap, subst, ◌∙◌, arith, append_assoc, append-nil, length-append}
+use Rattle.std.proofs.Common.{◌≡◌, ◌≤◌, ◌+◌, ◌&&◌, ℕ, ℤ, Bool, true, false, List, [], ◌∷◌, ◌++◌, length, Option, Some, None, Result, Ok, Err, refl, sym, ap, subst, ◌∙◌, arith, append_assoc, length-append}
 use Rattle.std.specs.Prelude.{nat_le, IfOk}
 use Rattle.std.proofs.lemmas.Bool.Decides.{nat_tests}
 use Rattle.bm_base.specs.declared.word.Un.{Un}
 use Rattle.bm_base.specs.declared.word.Bin.{Bin}
 use Rattle.src_names.specs.declared.resolved.RExpr.{RExpr}
 use Rattle.src_names.specs.declared.resolved.RExpr.TheVariants as e
-use Rattle.src_names.specs.declared.resolved.RStmt.{RStmt}
-use Rattle.src_names.specs.declared.resolved.RStmt.TheVariants as s
 use Rattle.tuple_ir.specs.declared.tuple.Tuple as t
 use Rattle.tuple_ir.specs.declared.tuple.Tuple.TheVariants as tuple
-use Rattle.tuple_lower.specs.Lowered.{last_of, expr_tuples, stmt_tuples, body_tuples}
-use Rattle.tuple_lower.specs.Straight.{is_plain, straight_expr, straight_stmt, straight_body}
-use Rattle.tuple_lower.specs.Lowers.{Lowered, Lowers, LowersAll}
-use Rattle.tuple_lower.proofs.Equations.{tuples-number, tuples-var, tuples-two, tuples-assign, tuples-print, straight-number, straight-var, straight-element, straight-one, straight-two, straight-assign, straight-print}
+use Rattle.tuple_lower.specs.Lowered.{last_of, expr_tuples}
+use Rattle.tuple_lower.specs.Straight.{is_plain, straight_expr}
+use Rattle.tuple_lower.specs.Lowers.{Lowered, Lowers}
+use Rattle.tuple_lower.proofs.Equations.{tuples-number, tuples-var, tuples-two, straight-number, straight-var, straight-element, straight-one, straight-two}
 
 pub false_left : (a b : Bool) → a ≡ false → (a && b) ≡ false
 false_left a b h = rw h refl

@@ -1,5 +1,5 @@
 -- Straight programs: assignments to variables and prints, over numbers, variables and `+ - *`.
-use Rattle.std.specs.Prelude.{ℕ, ◌&&◌, Bool, true, false, if◌then◌else◌, nat_le, List, [], ◌∷◌, length, map, Option, Some, None}
+use Rattle.std.specs.Prelude.{◌&&◌, Bool, true, false, if◌then◌else◌, nat_le, List, [], ◌∷◌, length, Option, Some, None}
 use Rattle.std.specs.List.{list_all}
 use Rattle.bm_base.specs.Entry.{Entry}
 use Rattle.bm_base.specs.declared.names.Kind.{Kind}

@@ -1,4 +1,4 @@
-use Rattle.std.proofs.Common.{rules, ◌≡◌, ◌∙◌, sym, length, w64, to_z, of_z, FitsSigned}
+use Rattle.std.proofs.Common.{rules, ◌∙◌, sym, length, w64, to_z, of_z, FitsSigned}
 use Rattle.std.proofs.lemmas.Int.{to_z-of_z}
 use Rattle.tuple_lower.specs.Lowered.{expr_tuples}
 use Rattle.tuple_lower.proofs.Placing.{operator_none, left_none, right_none, both, number, variable, element_none, one_none}

@@ -1,6 +1,6 @@
 use Rattle.std.proofs.Common.{rules, ◌∙◌, sym, refl}
 use Rattle.bm_base.specs.declared.names.Kind.TheVariants as k
-use Rattle.tuple_lower.proofs.Variables.{next_variable, no_more_variables, an_array}
+use Rattle.tuple_lower.proofs.Variables.{next_variable, an_array}
 use Rattle.tuple_lower.proofs.one_block.are_all_variables.Goals as goal
 
 pub loop-id-preserved : goal.loop-id-preserved
