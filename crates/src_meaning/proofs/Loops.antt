@@ -1,5 +1,5 @@
 -- A loop is its test, its body with a turn less, and the same loop again.
-use Rattle.std.proofs.Common.{◌≡◌, ℕ, suc, ◌+◌, List, true, false, map, sym, ap, ◌∙◌, add-one}
+use Rattle.std.proofs.Common.{◌≡◌, ℕ, ◌+◌, List, true, false, sym, ap, ◌∙◌, add-one}
 use Rattle.bm_base.specs.Memory.{Content}
 use Rattle.src_names.specs.declared.resolved.RExpr.{RExpr}
 use Rattle.src_names.specs.declared.resolved.RStmt.{RStmt}

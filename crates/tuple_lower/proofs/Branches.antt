@@ -20,7 +20,7 @@ use Rattle.tuple_lower.proofs.Gives.{expr_gives}
 use Rattle.tuple_lower.proofs.Sizes.{row_length}
 use Rattle.tuple_lower.proofs.Count.{Within, within-one, within-more, within-append}
 use Rattle.tuple_lower.proofs.Reach.{Reaches, reaches-then, reaches-one, StandFrom, stand-left, stand-right, Holds, Begins}
-use Rattle.tuple_lower.proofs.Placed.{comes, Comes, Sim, Tidy, after_room, HasSize, PutRuns, put_runs, put_begins}
+use Rattle.tuple_lower.proofs.Placed.{comes, Comes, Performs, Tidy, after_room, HasSize, PutRuns, put_runs, put_begins}
 
 pub expr_size : (c : RExpr) → nodes c ≤ 120 → HasSize (expr_tuples c) (nodes c)
 expr_size c few = record { size_is = row_length c; few = omega (arith, few) }
@@ -84,7 +84,7 @@ module _ (blocks : List Block) (b : ℕ) (e : World) (shown : List ℤ) (all : L
         long = omega (arith, long, l1);
       }
 
-module _ (c : RExpr) (few : nodes c ≤ 120) (first second : Lowering) (a1 a2 : Action) (f : Sim first a1) (g : Sim second a2) where
+module _ (c : RExpr) (few : nodes c ≤ 120) (first second : Lowering) (a1 a2 : Action) (f : Performs first a1) (g : Performs second a2) where
   abbrev chosen : Action
   chosen n memory = if is_zero (value_of c memory) then a2 n memory else a1 n memory
 
@@ -184,8 +184,8 @@ module _ (c : RExpr) (few : nodes c ≤ 120) (first second : Lowering) (a1 a2 : 
         let here2 : Comes blocks (test + 1) v v.output y n (a1 n w.memory) = subst (λ m. Comes blocks (test + 1) v v.output y n (a1 n m)) tested.same_memory here in
         body_through blocks b e w.output all n (a1 n w.memory) front (test + 1) v y join (front_reaches (test + 1) (follow_some v (last_of 0 cp.current) (test + 1) (y_last + 1) (value_of c w.memory) tested.value q)) (front_within (test + 1) (omega arith)) (omega arith) tested.same_output at_y.0 (omega arith) place (a1 n w.memory).end here2
 
-  pub choice_sim : Sim (choice (expr_tuples c) first second) (λ n memory. if is_zero (value_of c memory) then a2 n memory else a1 n memory)
-  choice_sim blocks b ts e n room few2 holds = pick blocks b ts e n room holds (is_zero (value_of c (after_all 0 ts e).memory)) refl
+  pub choice_performs : Performs (choice (expr_tuples c) first second) (λ n memory. if is_zero (value_of c memory) then a2 n memory else a1 n memory)
+  choice_performs blocks b ts e n room few2 holds = pick blocks b ts e n room holds (is_zero (value_of c (after_all 0 ts e).memory)) refl
 
 choice_first : (x more : List Block) (c current ts : List t.Tuple) (next : Next) → Begins x c ts → Begins (x ++ block c next ∷ more) current ts
 choice_first [] more c current ts next h = h

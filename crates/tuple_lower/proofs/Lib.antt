@@ -7,12 +7,12 @@ pub mod Gives
 pub mod Loops
 pub mod Making
 pub mod Meant
+pub mod Performing
 pub mod Placed
 pub mod Placing
 pub mod Putting
 pub mod Reach
 pub mod Serially
-pub mod Simulates
 pub mod Sizes
 pub mod Soundness
 pub mod Sounds

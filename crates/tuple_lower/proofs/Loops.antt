@@ -19,7 +19,7 @@ use Rattle.tuple_lower.proofs.Gives.{Gives, expr_gives}
 use Rattle.tuple_lower.proofs.Sizes.{row_length}
 use Rattle.tuple_lower.proofs.Count.{count, one_same, one_other, count-append, Within}
 use Rattle.tuple_lower.proofs.Reach.{Reaches, reaches-then, reaches-one, StandFrom, stand-left, stand-right, Holds}
-use Rattle.tuple_lower.proofs.Placed.{Arrives, comes, Comes, Sim, Tidy, after_room}
+use Rattle.tuple_lower.proofs.Placed.{Arrives, comes, Comes, Performs, Tidy, after_room}
 use Rattle.tuple_lower.proofs.Branches.{follow_zero, follow_some}
 
 -- the trail of a loop: its header stands in it once more than any other block
@@ -123,7 +123,7 @@ loops More blocks header exit e n o = Stays blocks header exit e n o
 abbrev Loops : List Block → ℕ → ℕ → World → ℕ → Outcome → Type 0
 Loops blocks header exit e n o = loops o.end blocks header exit e n o
 
-module _ (blocks : List Block) (c : RExpr) (few : nodes c ≤ 120) (body : Lowering) (a : Action) (spends : Spends a) (f : Sim body a) (h : ℕ) where
+module _ (blocks : List Block) (c : RExpr) (few : nodes c ≤ 120) (body : Lowering) (a : Action) (spends : Spends a) (f : Performs body a) (h : ℕ) where
   abbrev y : Piece
   y = body (h + 1) []
 
@@ -292,8 +292,8 @@ module _ (blocks : List Block) (c : RExpr) (few : nodes c ≤ 120) (body : Lower
             long = omega (arith, long);
           }
 
-pub repetition_sim : (c : RExpr) (body : Lowering) (a : Action) → nodes c ≤ 120 → Spends a → Sim body a → Sim (repetition (expr_tuples c) body) (λ n memory. while_loop (value_of c) a n memory)
-repetition_sim c body a few spends f blocks b ts e n room few2 holds =
+pub repetition_performs : (c : RExpr) (body : Lowering) (a : Action) → nodes c ≤ 120 → Spends a → Performs body a → Performs (repetition (expr_tuples c) body) (λ n memory. while_loop (value_of c) a n memory)
+repetition_performs c body a few spends f blocks b ts e n room few2 holds =
     let h = b + 1 in
     let y = body (h + 1) [] in
     let last = h + 1 + length y.ended in

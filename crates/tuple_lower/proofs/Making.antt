@@ -20,7 +20,7 @@ use Rattle.tuple_lower.proofs.Equations.{lower-assign, lower-set, lower-print, l
 use Rattle.tuple_lower.proofs.Sizes.{row_length, count-assign, count-set, count-print, count-if, count-while, few-assign, few-set, few-print, few-if, few-while, few-first}
 use Rattle.tuple_lower.proofs.Putting.{pushed, one_then, two_then}
 use Rattle.tuple_lower.proofs.Placed.{cut_if, cut_fits}
-use Rattle.tuple_lower.proofs.Simulates.{assign_size, set_size, print_size, stmt_tidy}
+use Rattle.tuple_lower.proofs.Performing.{assign_size, set_size, print_size, stmt_tidy}
 
 -- ---- how many blocks a statement ends
 
@@ -129,22 +129,22 @@ set_done x i v k j l r d d1 d2 d3 d4 fits count1 count2 first second last third 
 abbrev pub ended_by : Piece → Next → Piece
 ended_by d next = record { ended = d.ended ++ block d.current next ∷ []; current = [] }
 
-pub len_cut : (m : ℕ) (d d1 : Piece) → d1 ≡ continued d (cut m) → length d1.ended ≤ length d.ended + 1
-len_cut m d d1 is =
+pub ended_after_cut : (m : ℕ) (d d1 : Piece) → d1 ≡ continued d (cut m) → length d1.ended ≤ length d.ended + 1
+ended_after_cut m d d1 is =
     let q = cut m (length d.ended) d.current in
     let e = ap (λ p. length p.ended) is in
     let l = length-append d.ended q.ended in
     let k = cut_few m (length d.ended) d.current in
     omega (arith, e, l, k)
 
-pub len_row : (row : Row) (d d1 : Piece) → d1 ≡ with_row row d → length d1.ended ≡ length d.ended
-len_row row d d1 is = ap (λ p. length p.ended) is
+pub ended_after_row : (row : Row) (d d1 : Piece) → d1 ≡ with_row row d → length d1.ended ≡ length d.ended
+ended_after_row row d d1 is = ap (λ p. length p.ended) is
 
-pub len_end : (next : Next) (d d1 : Piece) → d1 ≡ ended_by d next → length d1.ended ≡ length d.ended + 1
-len_end next d d1 is = ap (λ p. length p.ended) is ∙ length-append d.ended (block d.current next ∷ [])
+pub ended_after_end : (next : Next) (d d1 : Piece) → d1 ≡ ended_by d next → length d1.ended ≡ length d.ended + 1
+ended_after_end next d d1 is = ap (λ p. length p.ended) is ∙ length-append d.ended (block d.current next ∷ [])
 
-pub len_body : (ys zs : List RStmt) (d d1 : Piece) → zs ≡ ys → AllFewNodes ys → d1 ≡ continued d (lower_body zs) → length d1.ended ≤ length d.ended + 4 * statements ys
-len_body ys zs d d1 same few is =
+pub ended_after_body : (ys zs : List RStmt) (d d1 : Piece) → zs ≡ ys → AllFewNodes ys → d1 ≡ continued d (lower_body zs) → length d1.ended ≤ length d.ended + 4 * statements ys
+ended_after_body ys zs d d1 same few is =
     let q = lower_body ys (length d.ended) d.current in
     let e = ap (λ p. length p.ended) (is ∙ ap (λ l. continued d (lower_body l)) same) in
     let l = length-append d.ended q.ended in
@@ -180,7 +180,7 @@ while_fits x c ys d is h =
 -- a body behind a block that was ended
 pub body_fits : (ys zs : List RStmt) (next : Next) (d d1 : Piece) → zs ≡ ys → AllFewNodes ys → d1 ≡ ended_by d next → length d.ended + 1 + 4 * statements ys < 4294967296 → BodyFits zs d1
 body_fits ys zs next d d1 same few is room =
-    let l = len_end next d d1 is in
+    let l = ended_after_end next d d1 is in
     let c : length d1.current ≡ 0 = ap (λ p. length p.current) is in
     subst (λ xs. BodyFits xs d1) (sym same) (record { few = few; numbers = omega (arith, l, room); cells = omega (arith, c) })
 
@@ -259,10 +259,10 @@ choice_done c ys ns ys2 ns2 x k test end join cell d d1 d2 d3 d4 d5 d6 d7 d8 d9 
     let d2_is : d2 ≡ record { ended = d.ended ++ cp.ended; current = cp.current } = e2 ∙ put_done (expr_tuples c) k d d1 e1 (count ∙ sym (row_length c (length d.current))) in
     let test_is : test ≡ test1 = et ∙ ap (λ p. length p.ended) d2_is ∙ length-append d.ended cp.ended in
     let cell_is : cell ≡ last_of 0 cp.current = let l = ap (λ p. length p.current) d2_is in omega (arith, ec, l) in
-    let l3 : length d3.ended ≡ test1 + 1 = len_end Halt d2 d3 e3 ∙ ap (λ j. j + 1) (sym et ∙ test_is) in
+    let l3 : length d3.ended ≡ test1 + 1 = ended_after_end Halt d2 d3 e3 ∙ ap (λ j. j + 1) (sym et ∙ test_is) in
     let d4_is : d4 ≡ record { ended = d3.ended ++ y.ended; current = y.current } = body_step ys ys2 (test1 + 1) d3 d4 sy l3 (ap (λ p. p.current) e3) e4 in
     let end_is : end ≡ end1 = ee ∙ ap (λ p. length p.ended) d4_is ∙ length-append d3.ended y.ended ∙ ap (λ j. j + length y.ended) l3 in
-    let l5 : length d5.ended ≡ end1 + 1 = len_end Halt d4 d5 e5 ∙ ap (λ j. j + 1) (sym ee ∙ end_is) in
+    let l5 : length d5.ended ≡ end1 + 1 = ended_after_end Halt d4 d5 e5 ∙ ap (λ j. j + 1) (sym ee ∙ end_is) in
     let d6_is : d6 ≡ record { ended = d5.ended ++ n.ended; current = n.current } = body_step ns ns2 (end1 + 1) d5 d6 sn l5 (ap (λ p. p.current) e5) e6 in
     let join_is : join ≡ join1 = ej ∙ ap (λ p. length p.ended + 1) d6_is ∙ ap (λ j. j + 1) (length-append d5.ended n.ended ∙ ap (λ j. j + length n.ended) l5) in
     choice_blocks d cp y n test end join cell d2 d3 d4 d5 d6 d7 d8 d9 d2_is et e3 d4_is ee e5 d6_is e7 e8 e9
@@ -297,9 +297,9 @@ repetition_done c ys ys2 x header exit cell d d1 d2 d3 d4 d5 d6 is sy eh e1 e2 e
     let exit1 = header1 + 1 + length y.ended + 1 in
     let d2_is : d2 ≡ record { ended = d1.ended; current = us } = e2 ∙ ap (λ ts. record { ended = d1.ended; current = ts ++ expr_tuples c (length ts) }) (ap (λ p. p.current) e1) in
     let cell_is : cell ≡ last_of 0 us = let l = ap (λ p. length p.current) d2_is in omega (arith, ec, l) in
-    let l1 : length d1.ended ≡ header1 = len_end (Goto header) d d1 e1 in
+    let l1 : length d1.ended ≡ header1 = ended_after_end (Goto header) d d1 e1 in
     let l2 : length d2.ended ≡ length d1.ended = ap (λ p. length p.ended) d2_is in
-    let l3 : length d3.ended ≡ header1 + 1 = len_end Halt d2 d3 e3 ∙ ap (λ j. j + 1) (l2 ∙ l1) in
+    let l3 : length d3.ended ≡ header1 + 1 = ended_after_end Halt d2 d3 e3 ∙ ap (λ j. j + 1) (l2 ∙ l1) in
     let d4_is : d4 ≡ record { ended = d3.ended ++ y.ended; current = y.current } = body_step ys ys2 (header1 + 1) d3 d4 sy l3 (ap (λ p. p.current) e3) e4 in
     let exit_is : exit ≡ exit1 = ex ∙ ap (λ p. length p.ended + 1) d4_is ∙ ap (λ j. j + 1) (length-append d3.ended y.ended ∙ ap (λ j. j + length y.ended) l3) in
     repetition_blocks d y us header exit cell d1 d2 d3 d4 d5 d6 eh e1 d2_is e3 d4_is e5 e6

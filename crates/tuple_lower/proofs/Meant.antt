@@ -21,7 +21,7 @@ use Rattle.tuple_lower.proofs.Serially.{after_all}
 use Rattle.tuple_lower.proofs.Count.{count-is, count-append, Within, within-one, within-more, within-append, trail_long}
 use Rattle.tuple_lower.proofs.Reach.{runs, leads, Stands, stands-then, StandFrom, stand-left, stand-right, stand-in, Holds}
 use Rattle.tuple_lower.proofs.Placed.{Arrives, Remains, comes}
-use Rattle.tuple_lower.proofs.Simulates.{body_sim}
+use Rattle.tuple_lower.proofs.Performing.{body_performs}
 
 abbrev Source : Type 0
 Source = Outcome
@@ -121,7 +121,7 @@ module _ (p : RProgram) (memory : List Content) (few : AllFewNodes p.body) where
   pick n o More x = goes_on n o x
 
   run_of : (n : ℕ) → goes (meaning p memory n).end bs memory n (meaning p memory n)
-  run_of n = pick n (meaning p memory n) (meaning p memory n).end (body_sim few bs 0 [] (at_first memory) n (length-replicate 128 (pos 0)) (omega arith) holds)
+  run_of n = pick n (meaning p memory n) (meaning p memory n).end (body_performs few bs 0 [] (at_first memory) n (length-replicate 128 (pos 0)) (omega arith) holds)
 
   keeps_some : (n : ℕ) (end : End) → goes end bs memory n (meaning p memory n) → (steps : ℕ) × Keeps bs memory n (meaning p memory n) steps
   keeps_some n Done x = (x.steps, x.keeps)

@@ -51,8 +51,8 @@ Comes blocks b e shown p n o = comes o.end blocks b e shown p n o
 
 -- Wherever the piece stands, it does what is to be done: from the entry of its first block with a world from which the tuples so far give
 -- the memory and the output before it.
-abbrev pub Sim : Lowering → Action → Type 0
-Sim l a = (blocks : List Block) (b : ℕ) (ts : List t.Tuple) (e : World) (n : ℕ) → length e.cells ≡ 128 → length ts ≤ 128 → Holds blocks b (l b ts) → Comes blocks b e (after_all 0 ts e).output (l b ts) n (a n (after_all 0 ts e).memory)
+abbrev pub Performs : Lowering → Action → Type 0
+Performs l a = (blocks : List Block) (b : ℕ) (ts : List t.Tuple) (e : World) (n : ℕ) → length e.cells ≡ 128 → length ts ≤ 128 → Holds blocks b (l b ts) → Comes blocks b e (after_all 0 ts e).output (l b ts) n (a n (after_all 0 ts e).memory)
 
 -- the current block stays within its room, and the first block begins with the tuples so far
 pub record Tidy (l : Lowering) : Type 0 where
@@ -170,8 +170,8 @@ pub record Puts (row : Row) (size : ℕ) (a : Action) : Type 0 where
   pub does : RowDoes row a
   pub spends : (n : ℕ) (memory : List Content) → (a n memory).turns ≡ n
 
-pub put_sim : (row : Row) (size : ℕ) (a : Action) → Puts row size a → Sim (put row) a
-put_sim row size a h blocks b ts e n room few holds =
+pub put_performs : (row : Row) (size : ℕ) (a : Action) → Puts row size a → Performs (put row) a
+put_performs row size a h blocks b ts e n room few holds =
     let r = put_runs blocks b e ts row size h.has_size room holds.ended in
     let w = after_all 0 ts e in
     let d = h.does r.from w n (after_room ts e room) r.fits in
@@ -267,8 +267,8 @@ module _ (blocks : List Block) (b : ℕ) (e : World) (shown : List ℤ) (p q : P
         } in
         done_as blocks b e shown whole n o More is here
 
-pub then_sim : (l m : Lowering) (a c : Action) → Tidy l → Tidy m → Sim l a → Sim m c → Sim (λ b ts. then_lower b (l b ts) m) (λ n memory. and_then (a n memory) c)
-then_sim l m a c tl tm f g blocks b ts e n room few holds =
+pub then_performs : (l m : Lowering) (a c : Action) → Tidy l → Tidy m → Performs l a → Performs m c → Performs (λ b ts. then_lower b (l b ts) m) (λ n memory. and_then (a n memory) c)
+then_performs l m a c tl tm f g blocks b ts e n room few holds =
     let p = l b ts in
     let mid = b + length p.ended in
     let q = m mid p.current in

@@ -22,7 +22,7 @@ use Rattle.tuple_lower.proofs.Soundness.{SoundFrom, SoundExpr, sound-append, sou
 use Rattle.tuple_lower.proofs.Sizes.{row_length, few-if, few-while, few-first, some_nodes}
 use Rattle.tuple_lower.proofs.Placed.{Tidy, put_fits}
 use Rattle.tuple_lower.proofs.Branches.{expr_size}
-use Rattle.tuple_lower.proofs.Simulates.{stmt_tidy, body_tidy}
+use Rattle.tuple_lower.proofs.Performing.{stmt_tidy, body_tidy}
 
 module _ (names : List Entry) where
   -- a block that is ended: its tuples are sound, and it leads to blocks up to this number

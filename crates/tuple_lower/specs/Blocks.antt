@@ -16,7 +16,7 @@ pub record Piece : Type 0 where
   pub ended : List Block
   pub current : List t.Tuple
 
--- what comes behind these tuples of the current block, which has this number: a piece of which the first block is this one
+-- What is lowered behind these tuples of the current block, which has this number. It is a piece of which this block is the first.
 abbrev pub Lowering : Type 0
 Lowering = ℕ → List t.Tuple → Piece
 
@@ -32,15 +32,15 @@ block tuples next = record { tuples = tuples; next = next }
 abbrev pub cut : ℕ → Lowering
 cut more b ts = if nat_le (length ts + more) 128 then record { ended = []; current = ts } else record { ended = block ts (Goto (b + 1)) ∷ []; current = [] }
 
--- the same tuples from the number on at which they stand
+-- the tuples of a row behind those of the current block
 abbrev pub with_row : Row → Piece → Piece
 with_row row p = record { ended = p.ended; current = p.current ++ row (length p.current) }
 
--- tuples are put behind those of the current block, or into a new block
+-- The tuples of a row are put behind those of the current block, or into a new one where the current one would pass 128.
 abbrev pub put : Row → Lowering
 put row b ts = with_row row (cut (length (row (length ts))) b ts)
 
--- a piece, and what comes behind its current block
+-- a piece, and what is lowered behind its current block
 abbrev pub then_lower : ℕ → Piece → Lowering → Piece
 then_lower b p next = let q = next (current_of b p) p.current in record { ended = p.ended ++ q.ended; current = q.current }
 

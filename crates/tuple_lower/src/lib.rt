@@ -7,6 +7,8 @@
 mod draft;
 mod laws;
 mod lowering;
+#[cfg(test)]
+mod lowering_tests;
 mod one_block;
 #[cfg(test)]
 mod tests;

@@ -5,7 +5,7 @@ use Rattle.tuple_ir.specs.declared.block.Next.TheVariants.{Halt, Goto}
 use Rattle.tuple_lower.specs.Lowered.{expr_tuples}
 use Rattle.tuple_lower.specs.Blocks.{lower_body}
 use Rattle.tuple_lower.specs.Drafted.{continued}
-use Rattle.tuple_lower.proofs.Making.{if_fits, while_fits, body_fits, len_cut, len_row, len_end, len_body, choice_done, repetition_done, next_stmt, next_fits, first_fits}
+use Rattle.tuple_lower.proofs.Making.{if_fits, while_fits, body_fits, ended_after_cut, ended_after_row, ended_after_end, ended_after_body, choice_done, repetition_done, next_stmt, next_fits, first_fits}
 use Rattle.tuple_lower.proofs.lowering.+lower_stmt.Goals as goal
 
 pub lower_stmt-make_room-requires-clause-numbers : goal.lower_stmt-make_room-requires-clause-numbers
@@ -15,16 +15,16 @@ pub lower_stmt-number-test-requires : goal.lower_stmt-number-test-requires
 lower_stmt-number-test-requires t c =
     let f = if_fits c.args.stmt.now c.in-If.cond c.in-If.yes c.in-If.no c.args.draft.now c.in-If.is c.requires in
     let n = f.numbers in
-    let l1 = len_cut c.size.result c.args.draft.now c.make_room.new.self c.in_ok-make_room-in-If.ensures in
-    let l2 = len_row (expr_tuples c.in-If.cond) c.make_room.new.self c.put_value.new.draft c.in_ok-cell-in-If.ensures.row in
+    let l1 = ended_after_cut c.size.result c.args.draft.now c.make_room.new.self c.in_ok-make_room-in-If.ensures in
+    let l2 = ended_after_row (expr_tuples c.in-If.cond) c.make_room.new.self c.put_value.new.draft c.in_ok-cell-in-If.ensures.row in
     omega (arith, n, l1, l2)
 
 pub lower_stmt-lower_body-requires : goal.lower_stmt-lower_body-requires
 lower_stmt-lower_body-requires t c =
     let f = if_fits c.args.stmt.now c.in-If.cond c.in-If.yes c.in-If.no c.args.draft.now c.in-If.is c.requires in
     let n = f.numbers in
-    let l1 = len_cut c.size.result c.args.draft.now c.make_room.new.self c.in_ok-make_room-in-If.ensures in
-    let l2 = len_row (expr_tuples c.in-If.cond) c.make_room.new.self c.put_value.new.draft c.in_ok-cell-in-If.ensures.row in
+    let l1 = ended_after_cut c.size.result c.args.draft.now c.make_room.new.self c.in_ok-make_room-in-If.ensures in
+    let l2 = ended_after_row (expr_tuples c.in-If.cond) c.make_room.new.self c.put_value.new.draft c.in_ok-cell-in-If.ensures.row in
     let fits = body_fits c.in-If.yes c.as_slice.result.now Halt c.put_value.new.draft c.end_by.new.self c.as_slice.ensures f.few_ones c.in_ok-end_by-in-If.ensures (omega (arith, n, l1, l2)) in
     (search (rules, the_lemmas), fits)
 
@@ -32,20 +32,20 @@ pub lower_stmt-number-end-requires : goal.lower_stmt-number-end-requires
 lower_stmt-number-end-requires t c =
     let f = if_fits c.args.stmt.now c.in-If.cond c.in-If.yes c.in-If.no c.args.draft.now c.in-If.is c.requires in
     let n = f.numbers in
-    let l1 = len_cut c.size.result c.args.draft.now c.make_room.new.self c.in_ok-make_room-in-If.ensures in
-    let l2 = len_row (expr_tuples c.in-If.cond) c.make_room.new.self c.put_value.new.draft c.in_ok-cell-in-If.ensures.row in
-    let l3 = len_end Halt c.put_value.new.draft c.end_by.new.self c.in_ok-end_by-in-If.ensures in
-    let l4 = len_body c.in-If.yes c.as_slice.result.now c.end_by.new.self c.lower_body.new.draft c.as_slice.ensures f.few_ones c.in_ok-lower_body-in-If.ensures in
+    let l1 = ended_after_cut c.size.result c.args.draft.now c.make_room.new.self c.in_ok-make_room-in-If.ensures in
+    let l2 = ended_after_row (expr_tuples c.in-If.cond) c.make_room.new.self c.put_value.new.draft c.in_ok-cell-in-If.ensures.row in
+    let l3 = ended_after_end Halt c.put_value.new.draft c.end_by.new.self c.in_ok-end_by-in-If.ensures in
+    let l4 = ended_after_body c.in-If.yes c.as_slice.result.now c.end_by.new.self c.lower_body.new.draft c.as_slice.ensures f.few_ones c.in_ok-lower_body-in-If.ensures in
     omega (arith, n, l1, l2, l3, l4)
 
 pub lower_stmt-lower_body-requires-in-If : goal.lower_stmt-lower_body-requires-in-If
 lower_stmt-lower_body-requires-in-If t c =
     let f = if_fits c.args.stmt.now c.in-If.cond c.in-If.yes c.in-If.no c.args.draft.now c.in-If.is c.requires in
     let n = f.numbers in
-    let l1 = len_cut c.size.result c.args.draft.now c.make_room.new.self c.in_ok-make_room-in-If.ensures in
-    let l2 = len_row (expr_tuples c.in-If.cond) c.make_room.new.self c.put_value.new.draft c.in_ok-cell-in-If.ensures.row in
-    let l3 = len_end Halt c.put_value.new.draft c.end_by.new.self c.in_ok-end_by-in-If.ensures in
-    let l4 = len_body c.in-If.yes c.as_slice.result.now c.end_by.new.self c.lower_body.new.draft c.as_slice.ensures f.few_ones c.in_ok-lower_body-in-If.ensures in
+    let l1 = ended_after_cut c.size.result c.args.draft.now c.make_room.new.self c.in_ok-make_room-in-If.ensures in
+    let l2 = ended_after_row (expr_tuples c.in-If.cond) c.make_room.new.self c.put_value.new.draft c.in_ok-cell-in-If.ensures.row in
+    let l3 = ended_after_end Halt c.put_value.new.draft c.end_by.new.self c.in_ok-end_by-in-If.ensures in
+    let l4 = ended_after_body c.in-If.yes c.as_slice.result.now c.end_by.new.self c.lower_body.new.draft c.as_slice.ensures f.few_ones c.in_ok-lower_body-in-If.ensures in
     let fits = body_fits c.in-If.no c.as_slice-in-If.result.now Halt c.lower_body.new.draft c.end_by-in-If.new.self c.as_slice-in-If.ensures f.few_others c.in_ok-end_by-in-If-2.ensures (omega (arith, n, l1, l2, l3, l4)) in
     (search (rules, the_lemmas), fits)
 
@@ -53,24 +53,24 @@ pub lower_stmt-number-join-requires : goal.lower_stmt-number-join-requires
 lower_stmt-number-join-requires t c =
     let f = if_fits c.args.stmt.now c.in-If.cond c.in-If.yes c.in-If.no c.args.draft.now c.in-If.is c.requires in
     let n = f.numbers in
-    let l1 = len_cut c.size.result c.args.draft.now c.make_room.new.self c.in_ok-make_room-in-If.ensures in
-    let l2 = len_row (expr_tuples c.in-If.cond) c.make_room.new.self c.put_value.new.draft c.in_ok-cell-in-If.ensures.row in
-    let l3 = len_end Halt c.put_value.new.draft c.end_by.new.self c.in_ok-end_by-in-If.ensures in
-    let l4 = len_body c.in-If.yes c.as_slice.result.now c.end_by.new.self c.lower_body.new.draft c.as_slice.ensures f.few_ones c.in_ok-lower_body-in-If.ensures in
-    let l5 = len_end Halt c.lower_body.new.draft c.end_by-in-If.new.self c.in_ok-end_by-in-If-2.ensures in
-    let l6 = len_body c.in-If.no c.as_slice-in-If.result.now c.end_by-in-If.new.self c.lower_body-in-If.new.draft c.as_slice-in-If.ensures f.few_others c.in_ok-lower_body-in-If-2.ensures in
+    let l1 = ended_after_cut c.size.result c.args.draft.now c.make_room.new.self c.in_ok-make_room-in-If.ensures in
+    let l2 = ended_after_row (expr_tuples c.in-If.cond) c.make_room.new.self c.put_value.new.draft c.in_ok-cell-in-If.ensures.row in
+    let l3 = ended_after_end Halt c.put_value.new.draft c.end_by.new.self c.in_ok-end_by-in-If.ensures in
+    let l4 = ended_after_body c.in-If.yes c.as_slice.result.now c.end_by.new.self c.lower_body.new.draft c.as_slice.ensures f.few_ones c.in_ok-lower_body-in-If.ensures in
+    let l5 = ended_after_end Halt c.lower_body.new.draft c.end_by-in-If.new.self c.in_ok-end_by-in-If-2.ensures in
+    let l6 = ended_after_body c.in-If.no c.as_slice-in-If.result.now c.end_by-in-If.new.self c.lower_body-in-If.new.draft c.as_slice-in-If.ensures f.few_others c.in_ok-lower_body-in-If-2.ensures in
     omega (arith, n, l1, l2, l3, l4, l5, l6)
 
 pub lower_stmt-overflow_add-join : goal.lower_stmt-overflow_add-join
 lower_stmt-overflow_add-join t c =
     let f = if_fits c.args.stmt.now c.in-If.cond c.in-If.yes c.in-If.no c.args.draft.now c.in-If.is c.requires in
     let n = f.numbers in
-    let l1 = len_cut c.size.result c.args.draft.now c.make_room.new.self c.in_ok-make_room-in-If.ensures in
-    let l2 = len_row (expr_tuples c.in-If.cond) c.make_room.new.self c.put_value.new.draft c.in_ok-cell-in-If.ensures.row in
-    let l3 = len_end Halt c.put_value.new.draft c.end_by.new.self c.in_ok-end_by-in-If.ensures in
-    let l4 = len_body c.in-If.yes c.as_slice.result.now c.end_by.new.self c.lower_body.new.draft c.as_slice.ensures f.few_ones c.in_ok-lower_body-in-If.ensures in
-    let l5 = len_end Halt c.lower_body.new.draft c.end_by-in-If.new.self c.in_ok-end_by-in-If-2.ensures in
-    let l6 = len_body c.in-If.no c.as_slice-in-If.result.now c.end_by-in-If.new.self c.lower_body-in-If.new.draft c.as_slice-in-If.ensures f.few_others c.in_ok-lower_body-in-If-2.ensures in
+    let l1 = ended_after_cut c.size.result c.args.draft.now c.make_room.new.self c.in_ok-make_room-in-If.ensures in
+    let l2 = ended_after_row (expr_tuples c.in-If.cond) c.make_room.new.self c.put_value.new.draft c.in_ok-cell-in-If.ensures.row in
+    let l3 = ended_after_end Halt c.put_value.new.draft c.end_by.new.self c.in_ok-end_by-in-If.ensures in
+    let l4 = ended_after_body c.in-If.yes c.as_slice.result.now c.end_by.new.self c.lower_body.new.draft c.as_slice.ensures f.few_ones c.in_ok-lower_body-in-If.ensures in
+    let l5 = ended_after_end Halt c.lower_body.new.draft c.end_by-in-If.new.self c.in_ok-end_by-in-If-2.ensures in
+    let l6 = ended_after_body c.in-If.no c.as_slice-in-If.result.now c.end_by-in-If.new.self c.lower_body-in-If.new.draft c.as_slice-in-If.ensures f.few_others c.in_ok-lower_body-in-If-2.ensures in
     let j = c.number-join.ensures in
     omega (arith, n, l1, l2, l3, l4, l5, l6, j)
 
@@ -85,8 +85,8 @@ pub lower_stmt-lower_body-requires-in-While : goal.lower_stmt-lower_body-require
 lower_stmt-lower_body-requires-in-While t c =
     let f = while_fits c.args.stmt.now c.in-While.cond c.in-While.body c.args.draft.now c.in-While.is c.requires in
     let n = f.numbers in
-    let l1 = len_end (Goto (c.number-header.result + 1)) c.args.draft.now c.end_by-in-While.new.self c.in_ok-end_by-in-While.ensures in
-    let l2 = len_row (expr_tuples c.in-While.cond) c.end_by-in-While.new.self c.put_value-in-While.new.draft c.in_ok-cell-in-While.ensures.row in
+    let l1 = ended_after_end (Goto (c.number-header.result + 1)) c.args.draft.now c.end_by-in-While.new.self c.in_ok-end_by-in-While.ensures in
+    let l2 = ended_after_row (expr_tuples c.in-While.cond) c.end_by-in-While.new.self c.put_value-in-While.new.draft c.in_ok-cell-in-While.ensures.row in
     let fits = body_fits c.in-While.body c.as_slice-in-While.result.now Halt c.put_value-in-While.new.draft c.end_by-in-While-2.new.self c.as_slice-in-While.ensures f.few_body c.in_ok-end_by-in-While-2.ensures (omega (arith, n, l1, l2)) in
     (search (rules, the_lemmas), fits)
 
@@ -94,20 +94,20 @@ pub lower_stmt-number-exit-requires : goal.lower_stmt-number-exit-requires
 lower_stmt-number-exit-requires t c =
     let f = while_fits c.args.stmt.now c.in-While.cond c.in-While.body c.args.draft.now c.in-While.is c.requires in
     let n = f.numbers in
-    let l1 = len_end (Goto (c.number-header.result + 1)) c.args.draft.now c.end_by-in-While.new.self c.in_ok-end_by-in-While.ensures in
-    let l2 = len_row (expr_tuples c.in-While.cond) c.end_by-in-While.new.self c.put_value-in-While.new.draft c.in_ok-cell-in-While.ensures.row in
-    let l3 = len_end Halt c.put_value-in-While.new.draft c.end_by-in-While-2.new.self c.in_ok-end_by-in-While-2.ensures in
-    let l4 = len_body c.in-While.body c.as_slice-in-While.result.now c.end_by-in-While-2.new.self c.lower_body-in-While.new.draft c.as_slice-in-While.ensures f.few_body c.in_ok-lower_body-in-While.ensures in
+    let l1 = ended_after_end (Goto (c.number-header.result + 1)) c.args.draft.now c.end_by-in-While.new.self c.in_ok-end_by-in-While.ensures in
+    let l2 = ended_after_row (expr_tuples c.in-While.cond) c.end_by-in-While.new.self c.put_value-in-While.new.draft c.in_ok-cell-in-While.ensures.row in
+    let l3 = ended_after_end Halt c.put_value-in-While.new.draft c.end_by-in-While-2.new.self c.in_ok-end_by-in-While-2.ensures in
+    let l4 = ended_after_body c.in-While.body c.as_slice-in-While.result.now c.end_by-in-While-2.new.self c.lower_body-in-While.new.draft c.as_slice-in-While.ensures f.few_body c.in_ok-lower_body-in-While.ensures in
     omega (arith, n, l1, l2, l3, l4)
 
 pub lower_stmt-overflow_add-exit : goal.lower_stmt-overflow_add-exit
 lower_stmt-overflow_add-exit t c =
     let f = while_fits c.args.stmt.now c.in-While.cond c.in-While.body c.args.draft.now c.in-While.is c.requires in
     let n = f.numbers in
-    let l1 = len_end (Goto (c.number-header.result + 1)) c.args.draft.now c.end_by-in-While.new.self c.in_ok-end_by-in-While.ensures in
-    let l2 = len_row (expr_tuples c.in-While.cond) c.end_by-in-While.new.self c.put_value-in-While.new.draft c.in_ok-cell-in-While.ensures.row in
-    let l3 = len_end Halt c.put_value-in-While.new.draft c.end_by-in-While-2.new.self c.in_ok-end_by-in-While-2.ensures in
-    let l4 = len_body c.in-While.body c.as_slice-in-While.result.now c.end_by-in-While-2.new.self c.lower_body-in-While.new.draft c.as_slice-in-While.ensures f.few_body c.in_ok-lower_body-in-While.ensures in
+    let l1 = ended_after_end (Goto (c.number-header.result + 1)) c.args.draft.now c.end_by-in-While.new.self c.in_ok-end_by-in-While.ensures in
+    let l2 = ended_after_row (expr_tuples c.in-While.cond) c.end_by-in-While.new.self c.put_value-in-While.new.draft c.in_ok-cell-in-While.ensures.row in
+    let l3 = ended_after_end Halt c.put_value-in-While.new.draft c.end_by-in-While-2.new.self c.in_ok-end_by-in-While-2.ensures in
+    let l4 = ended_after_body c.in-While.body c.as_slice-in-While.result.now c.end_by-in-While-2.new.self c.lower_body-in-While.new.draft c.as_slice-in-While.ensures f.few_body c.in_ok-lower_body-in-While.ensures in
     let j = c.number-exit.ensures in
     omega (arith, n, l1, l2, l3, l4, j)
 

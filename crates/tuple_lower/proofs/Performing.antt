@@ -15,9 +15,9 @@ use Rattle.tuple_lower.proofs.Equations.{tuples-assign, tuples-set, tuples-print
 use Rattle.tuple_lower.proofs.Sizes.{row_length}
 use Rattle.tuple_lower.proofs.Count.{within-nil}
 use Rattle.tuple_lower.proofs.Does.{RowDoes, assign_row, set_row, print_row}
-use Rattle.tuple_lower.proofs.Placed.{Sim, Tidy, HasSize, Puts, put_sim, put_tidy, then_sim, then_tidy}
-use Rattle.tuple_lower.proofs.Branches.{choice_sim, choice_tidy}
-use Rattle.tuple_lower.proofs.Loops.{repetition_sim, repetition_tidy}
+use Rattle.tuple_lower.proofs.Placed.{Performs, Tidy, HasSize, Puts, put_performs, put_tidy, then_performs, then_tidy}
+use Rattle.tuple_lower.proofs.Branches.{choice_performs, choice_tidy}
+use Rattle.tuple_lower.proofs.Loops.{repetition_performs, repetition_tidy}
 
 -- ---- statements without bodies
 
@@ -74,8 +74,8 @@ print_puts v few = record {
 pub nothing_tidy : Tidy (in_turn [])
 nothing_tidy = record { fits = λ b ts l. l; begins = λ b ts. ([], sym (append-nil ts)) }
 
-nothing_sim : Sim (in_turn []) (in_order [])
-nothing_sim blocks b ts e n room few holds = record {
+nothing_performs : Performs (in_turn []) (in_order [])
+nothing_performs blocks b ts e n room few holds = record {
   trail = [];
   here = e;
   reaches = (let p : b ≡ b + 0 = omega arith in p, refl);
@@ -99,18 +99,18 @@ body_tidy z.none = nothing_tidy
 body_tidy (z.more {z = x} {zs = xs} h k) = then_tidy (lower_stmt x) (lower_body xs) (stmt_tidy h) (body_tidy k)
 
 mutual
-  pub stmt_sim : {x : RStmt} → FewNodes x → Sim (lower_stmt x) (statement x)
-  stmt_sim (z.assign {id = x} {x = v} h) = subst (λ l. Sim l (statement (s.Assign x v))) (sym (lower-assign x v)) (put_sim (stmt_step (RStmt-F.Assign x v)) (nodes v + 1) (statement (s.Assign x v)) (assign_puts x v h))
-  stmt_sim (z.set {id = x} {i = i} {x = v} h) =
-      subst (λ l. Sim l (statement (s.SetElement x i v))) (sym (lower-set x i v)) (put_sim (stmt_step (RStmt-F.SetElement x i v)) (nodes i + nodes v + 1) (statement (s.SetElement x i v)) (set_puts x i v h))
-  stmt_sim (z.print {x = v} h) = subst (λ l. Sim l (statement (s.Print v))) (sym (lower-print v)) (put_sim (stmt_step (RStmt-F.Print v)) (nodes v + 1) (statement (s.Print v)) (print_puts v h))
-  stmt_sim (z.choose {x = c} {ys = ys} {ns = ns} h k l) =
-      subst (λ y. Sim y (statement (s.If c ys ns))) (sym (lower-if c ys ns))
-      (subst (λ a. Sim (choice (expr_tuples c) (lower_body ys) (lower_body ns)) a) (sym (statement-if c ys ns)) (choice_sim c h (lower_body ys) (lower_body ns) (statements ys) (statements ns) (body_sim k) (body_sim l)))
-  stmt_sim (z.repeat {x = c} {ys = ys} h k) =
-      subst (λ y. Sim y (statement (s.While c ys))) (sym (lower-while c ys))
-      (subst (λ a. Sim (repetition (expr_tuples c) (lower_body ys)) a) (sym (statement-while c ys)) (repetition_sim c (lower_body ys) (statements ys) h (lawful ys).spends (body_sim k)))
+  pub stmt_performs : {x : RStmt} → FewNodes x → Performs (lower_stmt x) (statement x)
+  stmt_performs (z.assign {id = x} {x = v} h) = subst (λ l. Performs l (statement (s.Assign x v))) (sym (lower-assign x v)) (put_performs (stmt_step (RStmt-F.Assign x v)) (nodes v + 1) (statement (s.Assign x v)) (assign_puts x v h))
+  stmt_performs (z.set {id = x} {i = i} {x = v} h) =
+      subst (λ l. Performs l (statement (s.SetElement x i v))) (sym (lower-set x i v)) (put_performs (stmt_step (RStmt-F.SetElement x i v)) (nodes i + nodes v + 1) (statement (s.SetElement x i v)) (set_puts x i v h))
+  stmt_performs (z.print {x = v} h) = subst (λ l. Performs l (statement (s.Print v))) (sym (lower-print v)) (put_performs (stmt_step (RStmt-F.Print v)) (nodes v + 1) (statement (s.Print v)) (print_puts v h))
+  stmt_performs (z.choose {x = c} {ys = ys} {ns = ns} h k l) =
+      subst (λ y. Performs y (statement (s.If c ys ns))) (sym (lower-if c ys ns))
+      (subst (λ a. Performs (choice (expr_tuples c) (lower_body ys) (lower_body ns)) a) (sym (statement-if c ys ns)) (choice_performs c h (lower_body ys) (lower_body ns) (statements ys) (statements ns) (body_performs k) (body_performs l)))
+  stmt_performs (z.repeat {x = c} {ys = ys} h k) =
+      subst (λ y. Performs y (statement (s.While c ys))) (sym (lower-while c ys))
+      (subst (λ a. Performs (repetition (expr_tuples c) (lower_body ys)) a) (sym (statement-while c ys)) (repetition_performs c (lower_body ys) (statements ys) h (lawful ys).spends (body_performs k)))
 
-  pub body_sim : {xs : List RStmt} → AllFewNodes xs → Sim (lower_body xs) (statements xs)
-  body_sim z.none = nothing_sim
-  body_sim (z.more {z = x} {zs = xs} h k) = then_sim (lower_stmt x) (lower_body xs) (statement x) (statements xs) (stmt_tidy h) (body_tidy k) (stmt_sim h) (body_sim k)
+  pub body_performs : {xs : List RStmt} → AllFewNodes xs → Performs (lower_body xs) (statements xs)
+  body_performs z.none = nothing_performs
+  body_performs (z.more {z = x} {zs = xs} h k) = then_performs (lower_stmt x) (lower_body xs) (statement x) (statements xs) (stmt_tidy h) (body_tidy k) (stmt_performs h) (body_performs k)
