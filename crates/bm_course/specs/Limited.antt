@@ -1,7 +1,7 @@
 -- A file of a kind that has a limit of length.
 use Rattle.std.specs.Prelude.{ℕ, ◌≡◌, ◌≤◌, ◌<◌, Vec, List, length, Result, Ok, Err}
 use Rattle.std.specs.declared.alloc.Global.{Global}
-use Rattle.bm_course.specs.Course.{Refused, Course, ◌>>=◌, file, judge}
+use Rattle.bm_course.specs.Course.{Refused, Course, file, judge}
 use Rattle.bm_course.specs.Lines.{too_long}
 
 -- the bytes, where they are at most so many, or the file is too long

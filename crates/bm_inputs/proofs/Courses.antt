@@ -1,11 +1,8 @@
 -- Courses of sources and machines come to one step, and their refusals have their statuses.
-use Rattle.std.proofs.Common.{◌≡◌, ◌≤◌, ◌⊎◌, ℕ, List, Option, Some, Result, Ok, Err, refl, sym, ap, subst, ◌∙◌, inl, inr, arith}
-use Rattle.bm_base.specs.Machine.{Machine}
+use Rattle.std.proofs.Common.{◌≡◌, ℕ, List, Some, Ok, Err, sym, ap, ◌∙◌, inl, arith}
 use Rattle.bm_base.specs.Spec.{standard}
-use Rattle.machine_file.specs.declared.fault.MachineFault.{MachineFault}
-use Rattle.src_names.specs.RProgram.{RProgram}
 use Rattle.bm_words.specs.Table.{MachineOf, Default, MachineFile}
-use Rattle.bm_course.specs.Course.{Refused, give, judge}
+use Rattle.bm_course.specs.Course.{Refused, judge}
 use Rattle.bm_course.specs.Limited.{limited}
 use Rattle.bm_course.specs.Laws.{IsDetermined, HasOneVerdict, Bounds}
 use Rattle.bm_course.specs.Clauses.{IsOfContent}
@@ -14,7 +11,7 @@ use Rattle.bm_course.proofs.Statuses.{then-bounds, judge-bounds, give-bounds, li
 use Rattle.bm_lines.specs.Machine.{machine_refused}
 use Rattle.bm_lines.proofs.Statuses.{source_refusal, machine_refusal}
 use Rattle.bm_inputs.specs.Sources.{ReadsSource, source_course}
-use Rattle.bm_inputs.specs.Machines.{ReadsMachine, file_course, machine_course}
+use Rattle.bm_inputs.specs.Machines.{ReadsMachine, machine_course}
 
 abbrev pub refusal : Refused → Type 0
 refusal r = IsOfContent r.status

@@ -6,7 +6,7 @@ use Rattle.machine_file.specs.declared.fault.MachineFault.{MachineFault}
 use Rattle.machine_file.specs.MachineFile.{machine_of}
 use Rattle.bm_words.specs.Table.{MachineOf, Default, MachineFile}
 use Rattle.bm_lines.specs.Machine.{machine_refused}
-use Rattle.bm_course.specs.Course.{Refused, Course, ◌>>=◌, give, judge}
+use Rattle.bm_course.specs.Course.{Refused, Course, give, judge}
 use Rattle.bm_course.specs.Limited.{limited}
 
 -- the machine that the bytes describe, or what their first fault is refused with

@@ -4,7 +4,7 @@ use Rattle.src_names.specs.RProgram.{RProgram}
 use Rattle.src_front.specs.declared.fault.SourceFault.{SourceFault}
 use Rattle.src_front.specs.Reads.{Reads, FirstFault}
 use Rattle.bm_lines.specs.Source.{source_refused}
-use Rattle.bm_course.specs.Course.{Refused, Course, ◌>>=◌, judge}
+use Rattle.bm_course.specs.Course.{Refused, Course, judge}
 use Rattle.bm_course.specs.Limited.{limited}
 
 -- the program that the bytes read as, or what their first fault is refused with

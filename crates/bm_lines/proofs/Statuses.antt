@@ -1,5 +1,5 @@
 -- The statuses that a source is refused with.
-use Rattle.std.proofs.Common.{◌≡◌, ◌≤◌, ◌⊎◌, ℕ, List, [], ◌∷◌, Option, Some, None, refl, sym, ap, subst, inl, inr, arith}
+use Rattle.std.proofs.Common.{◌≡◌, ℕ, List, [], ◌∷◌, Some, ap, subst, inl, arith}
 use Rattle.src_lexer.specs.declared.fault.LexFault.{LexFault}
 use Rattle.src_lexer.specs.declared.fault.LexFault.TheVariants as lex
 use Rattle.src_parser.specs.declared.fault.ParseFault.{ParseFault}

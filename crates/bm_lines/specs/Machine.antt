@@ -1,5 +1,5 @@
 -- What the faults of a machine file are refused with. The bytes of a key are a piece of their own, as they are.
-use Rattle.std.specs.Prelude.{ℕ, List, [], ◌∷◌, ◌++◌, codes, Option, Some, None}
+use Rattle.std.specs.Prelude.{[], ◌∷◌, ◌++◌, codes, Option, Some, None}
 use Rattle.std.specs.Fmt.{signed_decimal}
 use Rattle.machine_file.specs.declared.fault.MachineFault.{MachineFault}
 use Rattle.machine_file.specs.declared.fault.MachineFault.TheVariants.{NotToml, Key, Kind, Range, Memory}

@@ -1,7 +1,7 @@
 -- Which action the canonical run takes next, within a block.
-use Rattle.std.proofs.Common.{◌≡◌, ℕ, zero, suc, ◌+◌, ◌<◌, ◌≤◌, Bool, true, false, not, ◌&&◌, List, [], ◌∷◌, length, get_or, Option, Some, None, IsSome, is_some, refl, sym, ap, ◌∙◌, subst, arith, ◌⊎◌, inl, inr, if◌then◌else◌}
+use Rattle.std.proofs.Common.{◌≡◌, ℕ, ◌+◌, ◌<◌, ◌≤◌, Bool, false, not, ◌&&◌, List, length, Option, Some, None, IsSome, refl, ap, ◌∙◌, arith, ◌⊎◌, inl, inr, if◌then◌else◌}
 use Rattle.std.proofs.lemmas.Bool.{cases_lt, both_ways, and_from, cond-false}
-use Rattle.unit_law.specs.State.{Code, Program, Mode, In, Entering, Ended, State, Work, Idle, Busy, code_at, processor, is_free, is_due, next_item}
+use Rattle.unit_law.specs.State.{Code, Program, In, State, Work, Busy, code_at, processor, is_free, is_due, next_item}
 use Rattle.unit_law.specs.Units.{Choice, first_from}
 use Rattle.unit_law.specs.Steps.{Action, Finish, Fire, Start, Branch, Advance, NoneDue, NoneStarts, least_tick}
 use Rattle.unit_law.specs.OnUnit.{answer_at}

@@ -1,5 +1,5 @@
 -- With each action the clock stays or goes on, and the output stays or grows.
-use Rattle.std.proofs.Common.{◌≡◌, ℕ, zero, suc, ◌+◌, ◌≤◌, Bool, true, false, List, [], ◌∷◌, ◌++◌, min, set, replicate, Option, Some, None, refl, sym, ap, ◌∙◌, subst, le_refl, arith, append-nil, ℤ, if◌then◌else◌}
+use Rattle.std.proofs.Common.{◌≡◌, ℕ, zero, suc, ◌+◌, ◌≤◌, Bool, true, false, List, [], ◌∷◌, ◌++◌, set, replicate, Option, Some, None, refl, sym, ap, ◌∙◌, subst, le_refl, arith, append-nil, ℤ, if◌then◌else◌}
 use Rattle.bm_base.specs.Mask.{has_bit}
 use Rattle.bm_base.specs.Memory.{Content}
 use Rattle.tuple_ir.specs.declared.tuple.Tuple.{Tuple}
@@ -8,9 +8,8 @@ use Rattle.tuple_ir.specs.World.{World, write}
 use Rattle.tuple_ir.proofs.Growth.{prefix_refl}
 use Rattle.line_model.specs.declared.line.StreamItem.{StreamItem}
 use Rattle.line_model.specs.declared.line.StreamItem.TheVariants.{Do, Wait}
-use Rattle.line_model.specs.Streams.{masks}
 use Rattle.unit_law.specs.State.{Code, Program, Mode, In, Entering, Ended, Work, Idle, Busy, Processor, State, at_start, code_at, processor, next_item}
-use Rattle.unit_law.specs.Steps.{Action, Finish, Fire, Start, Branch, Advance, Enter, tick, lesser, least_tick, or_clock, resumed, passed, started, written, finished, tuple_at, after_in, after_to, state_after}
+use Rattle.unit_law.specs.Steps.{Action, Finish, Fire, Start, Branch, Advance, Enter, tick, lesser, least_tick, or_clock, resumed, passed, started, written, finished, tuple_at, after_to, state_after}
 use Rattle.unit_law.specs.Determinate.{IsPrefixOf}
 
 -- ---- the output

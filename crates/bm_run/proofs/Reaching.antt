@@ -9,7 +9,7 @@ use Rattle.tuple_ir.specs.declared.block.Next.TheVariants.{Halt, Goto, If}
 use Rattle.tuple_ir.specs.World.{World, cell}
 use Rattle.unit_law.specs.State.{Program, Mode, In, Entering, Ended, State, code_at, next_item}
 use Rattle.unit_law.specs.Units.{Choice}
-use Rattle.unit_law.specs.Steps.{Action, Finish, Fire, Start, Branch, Advance, Enter, May, MayIn, may_to, target, after_in, after_to, state_after, IsRun}
+use Rattle.unit_law.specs.Steps.{Action, Finish, Fire, Start, Branch, Advance, Enter, may_to, target, after_in, after_to, state_after, IsRun}
 use Rattle.unit_law.specs.OnUnit.{IsLawfulChoice}
 use Rattle.unit_law.specs.Canonical.{Durations, IsTiming, next_action, IsCanonical}
 use Rattle.unit_law.specs.Fit.{AllFit, AllStand, HasTimes}

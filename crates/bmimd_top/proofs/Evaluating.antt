@@ -1,5 +1,5 @@
 -- The text of an evaluation, from what its parts sent.
-use Rattle.std.proofs.Common.{◌≡◌, ℕ, List, map, Option, Result, Ok, Err, refl, sym, ap, subst, ◌∙◌}
+use Rattle.std.proofs.Common.{◌≡◌, ℕ, List, map, Option, Result, Ok, Err, ap, subst}
 use Rattle.bm_base.specs.Entry.{Entry}
 use Rattle.bm_base.specs.Memory.{Content, initial}
 use Rattle.bm_io.specs.declared.sinks.SinkFault.{SinkFault}
@@ -9,7 +9,6 @@ use Rattle.bm_io.proofs.LineSending.{Sent-values}
 use Rattle.src_names.specs.RProgram.{RProgram}
 use Rattle.src_meaning.specs.declared.evaluate.End.{End}
 use Rattle.src_meaning.specs.Meaning.{Outcome, meaning}
-use Rattle.bm_course.specs.Course.{Output}
 use Rattle.bm_course.specs.Sends.{Sends}
 use Rattle.bm_course.proofs.Sending.{first_stops, then_sends}
 use Rattle.bmimd_top.specs.Evaluation.{end_status, end_lines, outcome_text, eval_text}

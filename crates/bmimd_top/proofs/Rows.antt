@@ -1,5 +1,5 @@
 -- What may be said of the course of each row: its refusals and outputs have their statuses.
-use Rattle.std.proofs.Common.{◌≡◌, ◌⊎◌, ℕ, List, Option, Some, None, Result, Ok, Err, refl, sym, ap, subst, ◌∙◌, inl, inr, arith}
+use Rattle.std.proofs.Common.{◌≡◌, ℕ, List, Option, Some, None, Err, refl, sym, subst, ◌∙◌, inl, inr, arith}
 use Rattle.bm_io.specs.Files.{Held}
 use Rattle.bm_base.specs.Machine.{Machine}
 use Rattle.bm_words.specs.declared.command.ScriptWord.{ScriptWord}

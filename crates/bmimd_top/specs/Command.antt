@@ -2,7 +2,7 @@
 use Rattle.std.specs.Prelude.{ℕ, List, Option, Some, None}
 use Rattle.bm_words.specs.declared.command.ScriptWord.{ScriptWord}
 use Rattle.bm_words.specs.Table.{Request, MachineOf, EvalOf, GoOf, request_of}
-use Rattle.bm_course.specs.Course.{Course, Output, ◌>>=◌, give, refuse, judge}
+use Rattle.bm_course.specs.Course.{Course, Output, give, refuse, judge}
 use Rattle.bm_course.specs.Lines.{usage}
 use Rattle.bm_inputs.specs.Sources.{source_course}
 use Rattle.bmimd_top.specs.Evaluation.{eval_text}

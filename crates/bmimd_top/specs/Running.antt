@@ -11,7 +11,7 @@ use Rattle.src_names.specs.RProgram.{RProgram}
 use Rattle.tuple_lower.specs.Straight.{straight_block}
 use Rattle.plain_image.specs.Compiled.{IsCompiled}
 use Rattle.run_text.specs.RunText.{IsRunText}
-use Rattle.bm_course.specs.Course.{Refused, Output, Course, ◌>>=◌, judge}
+use Rattle.bm_course.specs.Course.{Refused, Output, Course, judge}
 use Rattle.bm_course.specs.Lines.{not_built}
 use Rattle.bm_inputs.specs.Sources.{source_course}
 use Rattle.bm_inputs.specs.Machines.{machine_course}

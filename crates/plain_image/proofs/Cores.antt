@@ -1,6 +1,5 @@
 -- One block of a straight program with its plain line is a core.
-use Rattle.std.proofs.Common.{◌≡◌, ℕ, zero, suc, ◌<◌, ◌≤◌, ◌-◌, List, [], ◌∷◌, length, Option, Some, None, refl, sym, ap, subst, ◌∙◌, arith}
-use Rattle.std.specs.Prelude.{slice_get}
+use Rattle.std.proofs.Common.{◌≡◌, ℕ, zero, suc, ◌<◌, ◌≤◌, ◌-◌, List, [], ◌∷◌, length, refl, sym, ap, subst, ◌∙◌, arith}
 use Rattle.bm_base.specs.Machine.{Machine}
 use Rattle.bm_base.specs.Entry.{Entry}
 use Rattle.tuple_ir.specs.declared.block.Block.{Block}
@@ -8,14 +7,12 @@ use Rattle.tuple_ir.specs.declared.block.Next.{Next}
 use Rattle.tuple_ir.specs.declared.block.Next.TheVariants.{Halt}
 use Rattle.tuple_ir.specs.declared.tuple.Tuple.{Tuple}
 use Rattle.tuple_ir.specs.declared.tuple.Tuple.TheVariants as tuple
-use Rattle.tuple_ir.specs.Conflict.{uses}
 use Rattle.line_model.specs.declared.line.Item.{Item}
 use Rattle.line_model.specs.Streams.{masks}
-use Rattle.unit_law.specs.State.{Program, Code, code_at}
+use Rattle.unit_law.specs.State.{Program, code_at}
 use Rattle.plain_line.specs.PlainLine.{plain_items, HasPlainLines, one_block}
 use Rattle.plain_line.proofs.Programs.{fit, stand, none_empty, synced, one}
 use Rattle.plain_line.proofs.PlainFacts.{masks_count}
-use Rattle.src_names.specs.Right.{IsVariableOf, IsArrayOf}
 use Rattle.tuple_lower.specs.Sound as sound
 use Rattle.bm_machine.specs.Core as core
 use Rattle.bm_machine.specs.Core.{IsCore, IsBlockSound, IsTupleSound, leads_rightly}

@@ -1,5 +1,5 @@
 -- A run keeps what its memory holds as the names ask.
-use Rattle.std.proofs.Common.{◌≡◌, ℕ, List, [], ◌∷◌, Option, Some, None, refl, sym, ap, subst, ◌∙◌}
+use Rattle.std.proofs.Common.{ℕ, List, [], ◌∷◌, Option, Some, None}
 use Rattle.std.specs.Prelude.{ℤ}
 use Rattle.bm_base.specs.Entry.{Entry}
 use Rattle.bm_base.specs.Memory.{Content}
@@ -10,7 +10,7 @@ use Rattle.tuple_ir.specs.Memories.{IsMemoryOf}
 use Rattle.line_model.specs.declared.line.StreamItem.{StreamItem}
 use Rattle.line_model.specs.declared.line.StreamItem.TheVariants.{Do, Wait}
 use Rattle.unit_law.specs.State.{Program, Code, Mode, In, Entering, Ended, Work, Idle, Busy, State, code_at, processor, next_item}
-use Rattle.unit_law.specs.Steps.{Action, Finish, Fire, Start, Branch, Advance, Enter, state_after, after_to, after_in, written, finished, started, tuple_at}
+use Rattle.unit_law.specs.Steps.{Action, Finish, Fire, Start, Branch, Advance, Enter, state_after, after_to, written, finished, started, tuple_at}
 use Rattle.src_meaning.proofs.Kept.{IsMemoryOf-set_variable, IsMemoryOf-set_element}
 
 module _ (names : List Entry) where

@@ -1,5 +1,5 @@
 -- The text of a run.
-use Rattle.std.proofs.Common.{◌≡◌, ℕ, List, [], ◌∷◌, ◌++◌, map, Option, Some, None, Result, Ok, Err, refl, sym, ap, subst, ◌∙◌}
+use Rattle.std.proofs.Common.{◌≡◌, ℕ, List, [], ◌++◌, map, Option, Result, Ok, Err, refl, sym, ap, subst, ◌∙◌}
 use Rattle.std.specs.Prelude.{ℤ, replicate}
 use Rattle.bm_base.specs.Entry.{Entry}
 use Rattle.bm_base.specs.Memory.{Content, initial}
@@ -20,7 +20,7 @@ use Rattle.bm_report.specs.Text.{end_lines}
 use Rattle.src_meaning.proofs.Kept.{IsMemoryOf-initial}
 use Rattle.bm_course.specs.Course.{Output}
 use Rattle.bm_course.specs.Sends.{Sends}
-use Rattle.bm_course.proofs.Sending.{first_stops, then_sends, sends_all, sends_part}
+use Rattle.bm_course.proofs.Sending.{first_stops, then_sends}
 use Rattle.run_text.specs.RunText.{run_text, run_status, ending, IsRunText}
 use Rattle.run_text.specs.Begins.{Begins}
 use Rattle.run_text.proofs.Memories.{run_keeps}

@@ -1,7 +1,7 @@
 -- What the run of a program on the static unit writes.
 use Rattle.std.specs.Prelude.{ℕ, ◌≡◌, ℤ, List, ◌++◌, map, Option, Some, None}
 use Rattle.bm_base.specs.Entry.{Entry}
-use Rattle.bm_base.specs.Memory.{Content, initial}
+use Rattle.bm_base.specs.Memory.{initial}
 use Rattle.bm_io.specs.LineValues.{value_line}
 use Rattle.timing_script.specs.Script.{script_duration}
 use Rattle.timing_script.specs.declared.script.Script.{Script}

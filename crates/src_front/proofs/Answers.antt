@@ -1,19 +1,17 @@
 -- Each text has one answer: it reads as a program, or has a first fault.
-use Rattle.std.proofs.Common.{◌≡◌, ℕ, List, refl, ap, sym, ◌∙◌, subst}
+use Rattle.std.proofs.Common.{◌≡◌, ℕ, List, ap, subst}
 use Rattle.src_lexer.specs.declared.token.Token.{Token}
 use Rattle.src_lexer.specs.declared.fault.LexFault.{LexFault}
-use Rattle.src_lexer.specs.Spell.{Spells, AreAllowed, Faults as FaultsOfBytes}
+use Rattle.src_lexer.specs.Spell.{Faults as FaultsOfBytes}
 use Rattle.src_lexer.specs.Laws.{HasOneSpelling, HaveOneAnswer as LexerAnswers, Answer as OfBytes, tokens, fault as bad_bytes}
 use Rattle.src_tree.specs.declared.tree.Program.{Program}
 use Rattle.src_tree.specs.Grammar.{Derives}
-use Rattle.src_tree.specs.Limits.{KeepsLimits}
 use Rattle.src_tree.specs.Laws.{DerivedArePlain}
 use Rattle.src_parser.specs.declared.fault.ParseFault.{ParseFault}
 use Rattle.src_parser.specs.Fault.{Faults as FaultsOfTokens}
 use Rattle.src_parser.specs.Laws.{HaveOneTree, HaveOneAnswer as ParserAnswers, Answer as OfTokens, tree, fault as bad_tokens}
 use Rattle.src_names.specs.declared.fault.NameFault.{NameFault}
 use Rattle.src_names.specs.RProgram.{RProgram}
-use Rattle.src_names.specs.Named.{IsNamed}
 use Rattle.src_names.specs.Fault.{Faults as FaultsOfNames}
 use Rattle.src_names.specs.Laws.{HaveOneAnswer as NamesAnswers, Answer as OfNames, program as named, fault as bad_names}
 use Rattle.src_front.specs.declared.fault.SourceFault.{SourceFault}

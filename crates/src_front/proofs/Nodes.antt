@@ -27,7 +27,7 @@ use Rattle.src_names.specs.declared.resolved.RExpr.{RExpr}
 use Rattle.src_names.specs.declared.resolved.RExpr.TheFolds.{fold-roll-RExpr}
 use Rattle.src_names.specs.declared.resolved.RExpr.TheVariants as re
 use Rattle.src_names.specs.declared.resolved.RStmt.{RStmt}
-use Rattle.src_names.specs.Named.{IsVar, IsArray, NamedExpr, NamedStmt, NamedBody, IsNamed}
+use Rattle.src_names.specs.Named.{NamedExpr, NamedStmt, NamedBody}
 use Rattle.src_names.specs.Named as n
 use Rattle.src_names.specs.Sizes.{nodes_step, FewNodes, AllFewNodes}
 use Rattle.src_names.specs.Sizes as z

@@ -23,7 +23,7 @@ use Rattle.src_names.specs.declared.fault.NameFault.TheVariants as f
 use Rattle.src_names.specs.Declarations.{AreDeclared, AreInRange, IsNamedWell, AreNamedWell, name_of}
 use Rattle.src_names.specs.Declarations as n
 use Rattle.src_names.specs.Fault as t
-use Rattle.src_names.specs.Fault.{IsFree, DeclaredAt, DeclFault, DeclsFault}
+use Rattle.src_names.specs.Fault.{DeclaredAt, DeclFault, DeclsFault}
 use Rattle.src_names.specs.Adding.{kind_of, size_of}
 use Rattle.src_names.proofs.Bridge.{is_name_of}
 use Rattle.src_names.proofs.Find.{placed, absent}

@@ -1,5 +1,5 @@
 -- A plain tree is named by a program, or it has a first fault.
-use Rattle.std.proofs.Common.{◌≡◌, ◌≢◌, ◌⊎◌, inl, inr, ℕ, zero, suc, ◌+◌, ◌-◌, ◌^◌, ◌<◌, ◌≤◌, ℤ, pos, negsuc, Bool, true, false, min, List, [], ◌∷◌, ◌++◌, length, Option, Some, None, refl, ap, sym, ◌∙◌, subst, arith, append_assoc}
+use Rattle.std.proofs.Common.{◌≡◌, ◌≢◌, ◌⊎◌, inl, inr, ℕ, ◌+◌, ◌-◌, ◌<◌, ◌≤◌, pos, negsuc, Bool, true, false, List, [], ◌∷◌, ◌++◌, length, Option, Some, None, refl, ap, sym, ◌∙◌, subst, arith, append_assoc}
 use Rattle.std.specs.Prelude.{slice_get}
 use Rattle.std.proofs.lemmas.List.{append-nil}
 use Rattle.std.proofs.lemmas.Bool.Decides.{leb_tells}
@@ -12,7 +12,6 @@ use Rattle.src_tree.specs.declared.tree.Ident.{Ident}
 use Rattle.src_tree.specs.declared.tree.Expr.{Expr}
 use Rattle.src_tree.specs.declared.tree.Expr.TheVariants as e
 use Rattle.src_tree.specs.declared.tree.Stmt.{Stmt}
-use Rattle.src_tree.specs.declared.tree.Stmt.TheVariants as s
 use Rattle.src_tree.specs.declared.tree.Decl.{Decl}
 use Rattle.src_tree.specs.declared.tree.Decl.TheVariants as d
 use Rattle.src_tree.specs.declared.tree.Program.{Program}
@@ -27,16 +26,16 @@ use Rattle.src_names.specs.declared.fault.NameFault.{NameFault}
 use Rattle.src_names.specs.declared.fault.NameFault.TheVariants as f
 use Rattle.src_names.specs.Declarations.{AreDeclared, AreInRange, IsNamedWell, name_of}
 use Rattle.src_names.specs.Declarations as a
-use Rattle.src_names.specs.Named.{IsVar, IsArray, NamedExpr, NamedStmt, NamedBody, IsNamed}
+use Rattle.src_names.specs.Named.{IsVar, IsArray, NamedExpr, NamedStmt, NamedBody}
 use Rattle.src_names.specs.Named as n
-use Rattle.src_names.specs.Fault.{Use, Plain, Indexed, uses, stmt_uses, body_uses, UseFault, UsesFault, DeclFault, DeclsFault, Faults}
+use Rattle.src_names.specs.Fault.{Use, Plain, Indexed, uses, stmt_uses, body_uses, UseFault, DeclFault, DeclsFault}
 use Rattle.src_names.specs.Fault as t
 use Rattle.src_names.specs.Stops.{Stops}
 use Rattle.src_names.specs.Stops as w
 use Rattle.src_names.specs.Adding.{kind_of, size_of}
 use Rattle.src_names.specs.Laws.{Answer, program, fault}
 use Rattle.src_names.proofs.Find.{placed, absent}
-use Rattle.src_names.proofs.Declaring.{length_declared, decl_at, added, range_more, size_fault, twice_fault, declared_at, nothing}
+use Rattle.src_names.proofs.Declaring.{decl_at, added, range_more, size_fault, declared_at, nothing}
 use Rattle.src_names.proofs.Wrong.{var_name, element_name, element_index, one_operand, two_left, two_right, assign_name, assign_value, set_name, set_index, set_value, print_value, if_cond, if_yes, if_no, while_cond, while_body, body_first, body_rest}
 use Rattle.src_names.proofs.Whole.{body_fault, is_named}
 

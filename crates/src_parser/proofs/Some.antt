@@ -1,16 +1,14 @@
 -- Tokens derive a tree within the limits, or they have a first fault.
-use Rattle.std.proofs.Common.{◌≡◌, ◌⊎◌, inl, inr, ℕ, ◌≤◌, ◌<◌, List, [], ◌∷◌, ◌++◌, length, Option, Some, None, Ok, Err, refl, ap, sym, ◌∙◌, subst, arith, append_assoc}
+use Rattle.std.proofs.Common.{◌≡◌, ◌⊎◌, inl, inr, ℕ, ◌≤◌, ◌<◌, List, [], ◌∷◌, ◌++◌, length, Option, Some, None, Err, refl, sym, ◌∙◌, subst, append_assoc}
 use Rattle.std.proofs.lemmas.List.{append-nil}
 use Rattle.std.proofs.lemmas.Bool.Decides.{leb_tells}
 use Rattle.src_lexer.specs.declared.token.Token.{Token}
 use Rattle.src_tree.specs.declared.tree.Program.{Program}
-use Rattle.src_tree.specs.Grammar.{Derives}
 use Rattle.src_tree.specs.Limits.{KeepsLimits}
 use Rattle.src_parser.specs.declared.fault.ParseFault.{ParseFault}
 use Rattle.src_parser.specs.declared.fault.ParseFault.TheVariants as f
 use Rattle.src_parser.specs.declared.machine.State.{State}
 use Rattle.src_parser.specs.declared.tally.Tally.{Tally}
-use Rattle.src_parser.specs.Fault.{Faults}
 use Rattle.src_parser.specs.Machine.{step, run, start, whole, want_of}
 use Rattle.src_parser.specs.Tally.{tallied, nothing}
 use Rattle.src_parser.specs.Laws.{Answer, tree, fault}

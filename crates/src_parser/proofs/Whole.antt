@@ -27,7 +27,7 @@ use Rattle.src_parser.specs.declared.machine.Mode.TheVariants as m
 use Rattle.src_parser.specs.declared.machine.State.{State}
 use Rattle.src_tree.specs.Grammar as gr
 use Rattle.src_tree.specs.Operators.{binary}
-use Rattle.src_tree.specs.Grammar.{ident, Is, IsExpr, IsStmt, IsBody, IsDecl, AreDecls, Derives}
+use Rattle.src_tree.specs.Grammar.{ident, Is, IsStmt, IsBody, IsDecl, AreDecls, Derives}
 use Rattle.src_parser.specs.Fault.{Begins}
 use Rattle.src_parser.specs.Machine.{step, run, run_from, start, reduce, operand_at, closed, name_at, item, fixed_at, closed_by, act, apply, after_if, whole, whole_in}
 use Rattle.src_parser.proofs.Complete.{complete_body, reduce_two, behind_all}

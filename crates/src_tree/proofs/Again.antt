@@ -1,7 +1,7 @@
 -- The text of a plain tree is read as the same tree: expressions.
 use Rattle.std.proofs.Common.{◌≡◌, ℕ, zero, suc, ◌+◌, ◌-◌, ◌<◌, ◌≤◌, ℤ, pos, negsuc, Bool, true, false, cond, ◌||◌, List, [], ◌∷◌, ◌++◌, length, Some, None, refl, ap, sym, subst, ◌∙◌, arith, append_assoc}
 use Rattle.std.proofs.lemmas.Bool.{ltb-false}
-use Rattle.std.specs.Prelude.{nat_lt, codes, slice_range}
+use Rattle.std.specs.Prelude.{nat_lt, codes}
 use Rattle.std.specs.Char.{is_ascii_digit, is_ascii_alphabetic}
 use Rattle.bm_base.specs.declared.word.Un.{Un}
 use Rattle.bm_base.specs.declared.word.Un.TheVariants as un

@@ -20,11 +20,11 @@ use Rattle.src_tree.specs.declared.tree.Decl.{Decl}
 use Rattle.src_tree.specs.declared.tree.Decl.TheVariants as d
 use Rattle.src_tree.specs.declared.tree.Program.{Program}
 use Rattle.src_tree.specs.Text.{text_of, expr_text, joined, stmt_step, stmt_text, body_text, decl_text, program_text}
-use Rattle.src_tree.specs.Grammar.{Is, IsExpr, IsStmt, IsBlock, IsElse, IsBody, IsDecl, AreDecls, Derives, ident}
+use Rattle.src_tree.specs.Grammar.{IsExpr, IsStmt, IsBody, IsDecl, AreDecls, ident}
 use Rattle.src_tree.specs.Grammar as g
 use Rattle.src_tree.specs.Plain.{IsName, IsCount, IsInitial, IsPlainExpr, IsPlainStmt, IsPlainBody, IsPlainDecl, ArePlainDecls, IsPlain}
 use Rattle.src_tree.specs.Plain as l
-use Rattle.src_tree.specs.Same.{SameName, SameExpr, SameStmt, SameBody, SameDecl, SameDecls, IsSame}
+use Rattle.src_tree.specs.Same.{SameExpr, SameStmt, SameBody, SameDecl, SameDecls}
 use Rattle.src_tree.specs.Same as z
 use Rattle.src_tree.specs.Laws.{IsReadAgain}
 use Rattle.src_tree.proofs.Equations.{text-assign, text-set, text-print, text-if, text-while}

@@ -1,4 +1,4 @@
-use Rattle.std.proofs.Common.{◌≡◌, refl, sym, ap, ◌∙◌}
+use Rattle.std.proofs.Common.{sym, ap, ◌∙◌}
 use Rattle.bm_base.specs.Memory.{initial}
 use Rattle.timing_script.specs.Script.{script_duration}
 use Rattle.unit_law.specs.Units.{static_choice}

@@ -1,4 +1,3 @@
-use Rattle.std.proofs.Common.{refl}
 use Rattle.bm_base.specs.Spec.{standard}
 use Rattle.bm_course.proofs.Coming.{Comes-begin}
 use Rattle.bm_inputs.specs.Standing.{IsMachine}

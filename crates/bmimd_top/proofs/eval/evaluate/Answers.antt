@@ -1,4 +1,4 @@
-use Rattle.std.proofs.Common.{refl, sym, ap, subst, ◌∙◌}
+use Rattle.std.proofs.Common.{refl, ap, ◌∙◌}
 use Rattle.bm_course.specs.Course.{give}
 use Rattle.bm_course.proofs.Concluding.{Concludes-stop, Concludes-done, Concludes-part, Concludes-whole, Takes-same, TakesPart-same, TakesWhole-same}
 use Rattle.bmimd_top.specs.Evaluation.{eval_text}

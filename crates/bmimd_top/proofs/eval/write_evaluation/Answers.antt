@@ -1,4 +1,4 @@
-use Rattle.std.proofs.Common.{◌≡◌, refl, sym, ap, subst, ◌∙◌}
+use Rattle.std.proofs.Common.{◌≡◌, sym, ap, subst, ◌∙◌}
 use Rattle.bm_base.specs.Memory.{initial}
 use Rattle.tuple_ir.specs.Memories.{IsMemoryOf}
 use Rattle.src_meaning.proofs.Kept.{IsMemoryOf-initial}

@@ -1,4 +1,4 @@
-use Rattle.std.proofs.Common.{◌≡◌, refl, sym, ap, subst, ◌∙◌}
+use Rattle.std.proofs.Common.{refl, subst}
 use Rattle.bm_words.specs.Seen.{seen_machine}
 use Rattle.bm_course.specs.Course.{judge, accepted}
 use Rattle.bm_course.proofs.Concluding.{Concludes-stop, Concludes-done, Concludes-part, Concludes-whole}

@@ -1,4 +1,4 @@
-use Rattle.std.proofs.Common.{◌≡◌, refl, sym, ap, subst, ◌∙◌, Ok, Err, Some, None}
+use Rattle.std.proofs.Common.{◌≡◌, refl, subst, None}
 use Rattle.bm_words.specs.Seen.{seen_machine}
 use Rattle.bm_course.specs.declared.refusal.Refusal.TheVariants.{NotBuilt}
 use Rattle.bm_course.specs.Course.{judge, accepted, rejected, ◌>>=◌}

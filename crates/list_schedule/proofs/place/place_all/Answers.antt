@@ -3,7 +3,7 @@ use Rattle.std.proofs.lemmas.List.{get_or_past}
 use Rattle.dependence.proofs.Kept.{ascending_length}
 use Rattle.list_schedule.proofs.Turn.{made_first, idle_found, Turned, turned, greedy, early}
 use Rattle.list_schedule.proofs.place.place_all.Goals as goal
-use Rattle.list_schedule.proofs.place.place_all.Goals.{After-best_idle, After-index-p}
+use Rattle.list_schedule.proofs.place.place_all.Goals.{After-index-p}
 
 pub loop-open-init : goal.loop-open-init
 loop-open-init c = (made_first c.args.processors c.args.times.now c.args.deps.now c.args.starts.now c.args.places.now c.requires.sound c.requires.places c.requires.starts c.requires.few c.requires.short c.requires.none (λ u past. get_or_past c.args.starts.now u 0 (omega (arith, past, c.requires.starts))), c.some_open_from-open.ensures)

@@ -1,4 +1,4 @@
-use Rattle.std.proofs.Common.{◌≡◌, refl, sym, ap, subst, ◌∙◌}
+use Rattle.std.proofs.Common.{◌≡◌, sym, ap, subst, ◌∙◌}
 use Rattle.bm_base.specs.Memory.{initial}
 use Rattle.timing_script.specs.Script.{script_duration}
 use Rattle.tuple_ir.specs.Memories.{IsMemoryOf}

@@ -1,4 +1,4 @@
-use Rattle.std.proofs.Common.{◌≡◌, ◌≤◌, refl, sym, ap, subst, ◌∙◌, arith, [], ◌∷◌, ◌++◌, Some, None, Ok, Err}
+use Rattle.std.proofs.Common.{◌≤◌, refl, arith, Some, None, Ok, Err}
 use Rattle.bm_base.specs.Memory.{initial}
 use Rattle.tuple_ir.specs.Memories.{IsMemoryOf}
 use Rattle.bm_run.specs.RunUpTo.{End}

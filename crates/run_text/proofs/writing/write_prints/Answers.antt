@@ -1,4 +1,4 @@
-use Rattle.std.proofs.Common.{◌≡◌, rules, refl, sym, ap, subst, ◌∙◌}
+use Rattle.std.proofs.Common.{rules, ap}
 use Rattle.run_text.proofs.Texts.{took_as, runs_as}
 use Rattle.run_text.proofs.writing.write_prints.Goals as goal
 

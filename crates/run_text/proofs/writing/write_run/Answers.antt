@@ -1,4 +1,4 @@
-use Rattle.std.proofs.Common.{◌≡◌, refl, sym, ap, subst, ◌∙◌}
+use Rattle.std.proofs.Common.{refl, sym, ap, ◌∙◌}
 use Rattle.bm_base.specs.Memory.{initial}
 use Rattle.bm_course.proofs.Sending.{Sends-nothing}
 use Rattle.timing_script.specs.Script.{script_duration}

@@ -21,7 +21,7 @@ use Rattle.bm_machine.proofs.Finished.{Finishing, actor_works, actor_freed, few_
 use Rattle.bm_machine.proofs.Falls.{finish_less}
 use Rattle.bm_machine.proofs.machine.Machine.finish.Given as given
 use Rattle.bm_machine.proofs.machine.Machine.finish.Goals as goal
-use Rattle.bm_machine.proofs.machine.Machine.finish.Goals.{After-tuples, After-deref, After-finish_event}
+use Rattle.bm_machine.proofs.machine.Machine.finish.Goals.{After-tuples, After-finish_event}
 
 -- the state of a machine by its fields
 abbrev state_of : (g : given.Over) → Inside g.row.U.Denot g.row.T.Denot → State
