@@ -15,7 +15,7 @@ use Rattle.tuple_ir.specs.declared.tuple.Tuple.TheVariants as tuple
 use Rattle.tuple_ir.specs.Serial.{no_block, block_at}
 use Rattle.tuple_lower.specs.Lowered.{Row, last_of, expr_tuples, stmt_step}
 use Rattle.tuple_lower.specs.Blocks.{Piece, block, cut, with_row, put, choice, repetition, lower_stmt, lower_body}
-use Rattle.tuple_lower.specs.Drafted.{continued, StmtFits, BodyFits, with_next}
+use Rattle.tuple_lower.specs.Drafted.{continued, StmtFits, BodyFits, with_next, ended_by, opened_choice, closed_choice, opened_loop, closed_loop}
 use Rattle.tuple_lower.proofs.Equations.{lower-assign, lower-set, lower-print, lower-if, lower-while}
 use Rattle.tuple_lower.proofs.Sizes.{row_length, count-assign, count-set, count-print, count-if, count-while, few-assign, few-set, few-print, few-if, few-while, few-first}
 use Rattle.tuple_lower.proofs.Putting.{pushed, one_then, two_then}
@@ -125,20 +125,6 @@ set_done x i v k j l r d d1 d2 d3 d4 fits count1 count2 first second last third 
     fourth ∙ two_then (expr_tuples i) (expr_tuples v) row (tuple.StoreEl x) d1 d2 d3 l r (λ n. refl) second last third last2 ∙ put_done row (k + j + 1) d d1 first all ∙ ap (continued d) (sym (lower-set x i v))
 
 -- ---- how many blocks have ended
-
-abbrev pub ended_by : Piece → Next → Piece
-ended_by d next = record { ended = d.ended ++ block d.current next ∷ []; current = [] }
-
-pub ended_after_cut : (m : ℕ) (d d1 : Piece) → d1 ≡ continued d (cut m) → length d1.ended ≤ length d.ended + 1
-ended_after_cut m d d1 is =
-    let q = cut m (length d.ended) d.current in
-    let e = ap (λ p. length p.ended) is in
-    let l = length-append d.ended q.ended in
-    let k = cut_few m (length d.ended) d.current in
-    omega (arith, e, l, k)
-
-pub ended_after_row : (row : Row) (d d1 : Piece) → d1 ≡ with_row row d → length d1.ended ≡ length d.ended
-ended_after_row row d d1 is = ap (λ p. length p.ended) is
 
 pub ended_after_end : (next : Next) (d d1 : Piece) → d1 ≡ ended_by d next → length d1.ended ≡ length d.ended + 1
 ended_after_end next d d1 is = ap (λ p. length p.ended) is ∙ length-append d.ended (block d.current next ∷ [])
@@ -343,3 +329,57 @@ first_fits zs x rest d is h =
 
 pub no_stmt : (zs : List RStmt) (d whole : Piece) → zs ≡ [] → continued d (lower_body zs) ≡ whole → d ≡ whole
 no_stmt zs d whole is h = ap (λ l. record { ended = l; current = d.current }) (sym (append-nil d.ended)) ∙ sym (ap (λ l. continued d (lower_body l)) is) ∙ h
+
+-- ---- an `if` and a `while` in their parts
+
+pub choice_opened : (c : RExpr) (k : ℕ) (d d1 d2 d3 : Piece) → k ≡ nodes c → d1 ≡ continued d (cut k) → d2 ≡ with_row (expr_tuples c) d1 → d3 ≡ ended_by d2 Halt → d3 ≡ opened_choice c d
+choice_opened c k d d1 d2 d3 count e1 e2 e3 = e3 ∙ ap (λ p. ended_by p Halt) (e2 ∙ put_done (expr_tuples c) k d d1 e1 (count ∙ sym (row_length c (length d.current))))
+
+pub choice_cell : (c : RExpr) (k cell : ℕ) (d d1 d2 : Piece) → k ≡ nodes c → d1 ≡ continued d (cut k) → d2 ≡ with_row (expr_tuples c) d1 → cell + 1 ≡ length d2.current → cell + 1 ≡ length (put (expr_tuples c) (length d.ended) d.current).current
+choice_cell c k cell d d1 d2 count e1 e2 h = h ∙ ap (λ p. length p.current) (e2 ∙ put_done (expr_tuples c) k d d1 e1 (count ∙ sym (row_length c (length d.current))))
+
+pub ended_after_choice : (c : RExpr) (d d1 : Piece) → d1 ≡ opened_choice c d → length d1.ended ≤ length d.ended + 2
+ended_after_choice c d d1 is =
+    let b = length d.ended in
+    let cp = put (expr_tuples c) b d.current in
+    let e = ap (λ p. length p.ended) is in
+    let l1 = length-append (d.ended ++ cp.ended) (block cp.current Halt ∷ []) in
+    let l2 = length-append d.ended cp.ended in
+    let k = cut_few (length (expr_tuples c (length d.current))) b d.current in
+    omega (arith, e, l1, l2, k)
+
+pub ended_after_loop : (c : RExpr) (d d1 : Piece) → d1 ≡ opened_loop c d → length d1.ended ≡ length d.ended + 2
+ended_after_loop c d d1 is =
+    let B = block d.current (Goto (length d.ended + 1)) in
+    let e = ap (λ p. length p.ended) is in
+    let l1 = length-append (d.ended ++ B ∷ []) (block (expr_tuples c 0) Halt ∷ []) in
+    let l2 = length-append d.ended (B ∷ []) in
+    omega (arith, e, l1, l2)
+
+-- a body behind what was opened
+pub opened_fits : (ys zs : List RStmt) (d : Piece) → zs ≡ ys → AllFewNodes ys → d.current ≡ [] → length d.ended + 4 * statements ys < 4294967296 → BodyFits zs d
+opened_fits ys zs d same few empty room = subst (λ xs. BodyFits xs d) (sym same) (record { few = few; numbers = room; cells = let e = ap (λ ts. length ts) empty in omega (arith, e) })
+
+pub choice_whole : (c : RExpr) (ys ns ys2 ns2 : List RStmt) (x : RStmt) (test cell end : ℕ) (d d3 d4 d5 d6 d9 : Piece) → x ≡ s.If c ys ns → ys2 ≡ ys → ns2 ≡ ns → d3 ≡ opened_choice c d → test + 1 ≡ length d3.ended
+    → cell + 1 ≡ length (put (expr_tuples c) (length d.ended) d.current).current → d4 ≡ continued d3 (lower_body ys2) → end ≡ length d4.ended → d5 ≡ ended_by d4 Halt → d6 ≡ continued d5 (lower_body ns2) → d9 ≡ closed_choice test cell end d6
+    → d9 ≡ continued d (lower_stmt x)
+choice_whole c ys ns ys2 ns2 x test cell end d d3 d4 d5 d6 d9 is sy sn e3 et ec e4 ee e5 e6 e9 =
+    let k = length (expr_tuples c (length d.current)) in
+    let d1 = continued d (cut k) in
+    let d2 = continued d (put (expr_tuples c)) in
+    let join = length d6.ended + 1 in
+    let d7 = ended_by d6 (Goto join) in
+    let d8 = with_next end (Goto join) d7 in
+    let count : length d3.ended ≡ length d2.ended + 1 = ended_after_end Halt d2 d3 e3 in
+    choice_done c ys ns ys2 ns2 x k test end join cell d d1 d2 d3 d4 d5 d6 d7 d8 d9 is sy sn (row_length c (length d.current)) refl refl ec (omega (arith, et, count)) e3 e4 ee e5 e6 refl refl refl e9
+
+pub loop_whole : (c : RExpr) (ys ys2 : List RStmt) (x : RStmt) (test cell : ℕ) (d d3 d4 d6 : Piece) → x ≡ s.While c ys → ys2 ≡ ys → d3 ≡ opened_loop c d → test ≡ length d.ended + 1 → cell + 1 ≡ length (expr_tuples c 0)
+    → d4 ≡ continued d3 (lower_body ys2) → d6 ≡ closed_loop test cell d4 → d6 ≡ continued d (lower_stmt x)
+loop_whole c ys ys2 x test cell d d3 d4 d6 is sy e3 et ec e4 e6 =
+    let header = length d.ended + 1 in
+    let exit = length d4.ended + 1 in
+    let d1 = ended_by d (Goto header) in
+    let d2 = with_row (expr_tuples c) d1 in
+    let d5 = ended_by d4 (Goto header) in
+    let last : d6 ≡ with_next header (If cell (header + 1) exit) d5 = e6 ∙ ap (λ j. with_next j (If cell (j + 1) exit) (ended_by d4 (Goto j))) et in
+    repetition_done c ys ys2 x header exit cell d d1 d2 d3 d4 d5 d6 is sy refl refl refl ec e3 e4 refl refl last

@@ -32,7 +32,7 @@ row_room x d m is = let n = length d.current in ap (λ p. length p.current) is �
 abbrev pub pushed : Piece → t.Tuple → Piece
 pushed d u = record { ended = d.ended; current = d.current ++ u ∷ [] }
 
-on_ok : {T E : Type 0} (answer : Result T E) (d2 p q : Piece) → p ≡ q → OnOk answer (d2 ≡ p) → OnOk answer (d2 ≡ q)
+pub on_ok : {T E : Type 0} (answer : Result T E) (d2 p q : Piece) → p ≡ q → OnOk answer (d2 ≡ p) → OnOk answer (d2 ≡ q)
 on_ok (Ok c) d2 p q same h = h ∙ same
 on_ok (Err f) d2 p q same h = tt
 

@@ -4,7 +4,7 @@ ghost use Rattle.src_names.specs.declared.resolved.RStmt.TheVariants.{Assign, Se
 ghost use Rattle.src_names.specs.Sizes.{nodes, AllFewNodes, statements};
 ghost use Rattle.tuple_lower.specs.Lowered.{last_of, expr_tuples};
 ghost use Rattle.tuple_lower.specs.Blocks.{with_row, put, lower_stmt as spec_stmt, lower_body as spec_body, lowered_blocks};
-ghost use Rattle.tuple_lower.specs.Drafted.{continued, StmtFits, BodyFits};
+ghost use Rattle.tuple_lower.specs.Drafted.{continued, StmtFits, BodyFits, opened_choice, closed_choice, opened_loop, closed_loop};
 
 use crate::draft::Draft;
 use src_names::{RExpr, RStmt, Resolved};
@@ -85,6 +85,84 @@ fn put_print(x: &RExpr, draft: &mut Draft) -> Result<(), AllocError>
     Ok(())
 }
 
+/// A block that ends by a condition: its number, and the cell that is asked.
+#[derive(Clone, Copy)]
+struct Test {
+    number: u32,
+    cell: u8,
+}
+
+/// Puts the condition of an `if` and opens its then-block.
+fn open_choice(cond: &RExpr, draft: &mut Draft) -> Result<Test, AllocError>
+    requires few { nodes cond.now ≤ 120 }
+    requires numbers { length draft.old.ended < 4294967294 }
+    requires cells { length draft.old.current ≤ 128 }
+    ensures opened { OnOk result (draft.new ≡ opened_choice cond.now draft.old) }
+    ensures number { IfOk result (λ test. test.number + 1 ≡ length draft.new.ended) }
+    ensures cell { IfOk result (λ test. test.cell + 1 ≡ length (put (expr_tuples cond.now) (length draft.old.ended) draft.old.current).current) }
+{
+    draft.make_room(size(cond))?;
+    let cell = put_value(cond, draft)?;
+    let number = draft.number();
+    draft.end_by(Next::Halt)?;
+    Ok(Test { number, cell })
+}
+
+/// Opens the join of an `if`, whose then-body ends by block `end`.
+fn close_choice(test: Test, end: u32, draft: &mut Draft) -> Result<(), AllocError>
+    requires numbers { length draft.old.ended < 4294967295 }
+    requires test { test.number < length draft.old.ended }
+    requires end { end < length draft.old.ended }
+    ensures { OnOk result (draft.new ≡ closed_choice test.number test.cell end draft.old) }
+{
+    let join = draft.number() + 1;
+    draft.end_by(Next::Goto { block: join })?;
+    draft.set_next(end, Next::Goto { block: join });
+    draft.set_next(
+        test.number,
+        Next::If {
+            cell: test.cell,
+            yes: test.number + 1,
+            no: end + 1,
+        },
+    );
+    Ok(())
+}
+
+/// Opens the header of a `while`, puts the condition there, and opens the body block.
+fn open_loop(cond: &RExpr, draft: &mut Draft) -> Result<Test, AllocError>
+    requires few { nodes cond.now ≤ 120 }
+    requires numbers { length draft.old.ended < 4294967294 }
+    ensures opened { OnOk result (draft.new ≡ opened_loop cond.now draft.old) }
+    ensures number { IfOk result (λ test. test.number ≡ length draft.old.ended + 1) }
+    ensures cell { IfOk result (λ test. test.cell + 1 ≡ length (expr_tuples cond.now 0)) }
+{
+    let number = draft.number() + 1;
+    draft.end_by(Next::Goto { block: number })?;
+    let cell = put_value(cond, draft)?;
+    draft.end_by(Next::Halt)?;
+    Ok(Test { number, cell })
+}
+
+/// Leads the body of a `while` back to its header, and opens the exit.
+fn close_loop(test: Test, draft: &mut Draft) -> Result<(), AllocError>
+    requires numbers { length draft.old.ended < 4294967295 }
+    requires test { test.number < length draft.old.ended }
+    ensures { OnOk result (draft.new ≡ closed_loop test.number test.cell draft.old) }
+{
+    let exit = draft.number() + 1;
+    draft.end_by(Next::Goto { block: test.number })?;
+    draft.set_next(
+        test.number,
+        Next::If {
+            cell: test.cell,
+            yes: test.number + 1,
+            no: exit,
+        },
+    );
+    Ok(())
+}
+
 /// Lowers a statement behind the current block.
 #[cycle(lower_stmt)]
 fn lower_stmt(stmt: &RStmt, draft: &mut Draft) -> Result<(), AllocError>
@@ -96,44 +174,17 @@ fn lower_stmt(stmt: &RStmt, draft: &mut Draft) -> Result<(), AllocError>
         RStmt::SetElement { name, index, value } => put_element(*name, index, value, draft),
         RStmt::Print { value } => put_print(value, draft),
         RStmt::If { cond, yes, no } => {
-            draft.make_room(size(cond))?;
-            let cell = put_value(cond, draft)?;
-            let test = draft.number();
-            draft.end_by(Next::Halt)?;
+            let test = open_choice(cond, draft)?;
             lower_body(yes.as_slice(), draft)?;
             let end = draft.number();
             draft.end_by(Next::Halt)?;
             lower_body(no.as_slice(), draft)?;
-            let join = draft.number() + 1;
-            draft.end_by(Next::Goto { block: join })?;
-            draft.set_next(end, Next::Goto { block: join });
-            draft.set_next(
-                test,
-                Next::If {
-                    cell,
-                    yes: test + 1,
-                    no: end + 1,
-                },
-            );
-            Ok(())
+            close_choice(test, end, draft)
         }
         RStmt::While { cond, body } => {
-            let header = draft.number() + 1;
-            draft.end_by(Next::Goto { block: header })?;
-            let cell = put_value(cond, draft)?;
-            draft.end_by(Next::Halt)?;
+            let test = open_loop(cond, draft)?;
             lower_body(body.as_slice(), draft)?;
-            let exit = draft.number() + 1;
-            draft.end_by(Next::Goto { block: header })?;
-            draft.set_next(
-                header,
-                Next::If {
-                    cell,
-                    yes: header + 1,
-                    no: exit,
-                },
-            );
-            Ok(())
+            close_loop(test, draft)
         }
     }
 }
