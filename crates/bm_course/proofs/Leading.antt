@@ -3,10 +3,10 @@ use Rattle.std.proofs.Common.{◌+◌, ℕ, List, [], ◌∷◌, ◌++◌, lengt
 use Rattle.std.proofs.lemmas.List.{length-take}
 use Rattle.std.proofs.lemmas.Bool.Decides.{leb_tells}
 use Rattle.bm_io.specs.Files.{Held, content_of}
-use Rattle.bm_course.specs.Course.{Refused, Output, Gives, Course, file, refuse, give, judge, accepted, rejected, ◌>>=◌, refuses, gives}
+use Rattle.bm_course.specs.Course.{Refused, Product, Gives, Course, file, refuse, give, judge, accepted, rejected, ◌>>=◌, refuses, gives}
 use Rattle.bm_course.specs.Lines.{too_long}
 use Rattle.bm_course.specs.Limited.{Fits, limited}
-use Rattle.bm_course.specs.Laws.{HasSomeVerdict, Settles, HasEnd, in_refusal, in_output}
+use Rattle.bm_course.specs.Laws.{HasSomeVerdict, Settles, HasEnd, in_refusal, in_product}
 use Rattle.bm_course.proofs.Coming.{IsReading-first, IsReading-then, at_end}
 
 module _ (held : Held) where
@@ -54,10 +54,10 @@ module _ (held : Held) where
         )
   ]
 
-  pub ends_by : (course : Course Output) → Settles held course → HasEnd held course
+  pub ends_by : (course : Course Product) → Settles held course → HasEnd held course
   ends_by course h = elim h.ends [
     | inl e ↦ in_refusal h.names e.0 (record { contents = h.contents; reading = h.reading; comes = e.1 })
-    | inr e ↦ in_output h.names e.0 (record { contents = h.contents; reading = h.reading; comes = at_end course h.contents e.0 e.1 })
+    | inr e ↦ in_product h.names e.0 (record { contents = h.contents; reading = h.reading; comes = at_end course h.contents e.0 e.1 })
   ]
 
 fits-some : (name : List ℕ) (most : ℕ) (bytes : List ℕ) → HasSomeVerdict (Fits name most bytes)

@@ -1,9 +1,11 @@
+pub mod Asking
 pub mod Pieces
 pub mod Coming
 pub mod Concluding
 pub mod Ended
 pub mod Settling
 pub mod Leading
+pub mod Bounds
 pub mod Statuses
 pub mod Answering
 pub mod Sending

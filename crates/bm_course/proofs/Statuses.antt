@@ -1,215 +1,204 @@
 -- The statuses of a call, and why it has them.
-use Rattle.std.proofs.Common.{◌≡◌, ◌≤◌, ◌⊎◌, ℕ, List, [], ◌∷◌, length, Option, Result, Ok, Err, refl, sym, ap, subst, ◌∙◌, inl, inr, arith}
+use Rattle.std.proofs.Common.{◌≡◌, ◌⊎◌, ℕ, List, [], ◌∷◌, Some, refl, sym, ap, subst, ◌∙◌, inl, inr, arith}
 use Rattle.bm_io.specs.Causes.{Rose}
-use Rattle.bm_io.specs.Files.{Held, asking}
+use Rattle.bm_io.specs.Files.{asking}
 use Rattle.bm_io.proofs.Asking.{asking-nothing}
-use Rattle.bm_io.specs.Sink.{Sent}
-use Rattle.bm_io.specs.declared.sinks.SinkFault.{SinkFault}
-use Rattle.bm_io.specs.declared.sinks.SinkFault.TheVariants.{Failed, Memory}
-use Rattle.bm_course.specs.Course.{Refused, Output, Refuses, Gives, Course, refuse, file, give, judge, accepted, rejected, ◌>>=◌, asks, refuses, gives, IsReading}
-use Rattle.bm_course.specs.Lines.{no_memory, cannot_read, cannot_write, too_long}
-use Rattle.bm_course.specs.Limited.{Fits, limited}
+use Rattle.bm_course.specs.Status.{Kind, Ended, OfWords, OfContent, OfRead, OfWrite, OfMemory, Is, kind_of, HasEnded, IsRefusal, IsStatus}
+use Rattle.bm_course.specs.Course.{Refused, Product, Course, refuse, IsReading}
+use Rattle.bm_course.specs.Lines.{no_memory}
 use Rattle.bm_course.specs.Laws.{Bounds}
-use Rattle.bm_course.specs.Goes.{Seen, Reports, Reported, status_after, Ending, done, refused, unread, unwritten, starved, starved_writing, Goes}
-use Rattle.bm_course.specs.Clauses.{HasWritten, IsRefused, IsUnread, IsUnwritten, IsOfContent, IsRefusal, HasEnded, IsStatus, StopsAtOnce}
-
--- the line was sent up to a write that failed
-abbrev Broke : Option (List ℕ) → Option (List ℕ) → ℕ → ℕ → Refused → Type 0
-Broke e n f g r = Sent {T = Unit {0}} e n r.line (Err Failed) × Rose f g
-
--- what is reported has its own status, 10 or 11
-pub reported : (e n : Option (List ℕ)) (f g : ℕ) (r : Refused) (status : ℕ) → Reported e n f g r status → (status ≡ r.status) ⊎ (((status ≡ 10) × Broke e n f g r) ⊎ (status ≡ 11))
-reported e n f g r status h = by h.told h.status_is h.sent h.rose
-  where
-    by : (t : Result (Unit {0}) SinkFault) → status ≡ status_after r.status t → Sent e n r.line t → (t ≡ Err Failed → Rose f g) → (status ≡ r.status) ⊎ (((status ≡ 10) × Broke e n f g r) ⊎ (status ≡ 11))
-    by (Ok x) q s k = inl q
-    by (Err Failed) q s k = inr (inl (q, (s, k refl)))
-    by (Err Memory) q s k = inr (inr q)
+use Rattle.bm_course.specs.Seen.{Seen}
+use Rattle.bm_course.specs.Goes.{TakesLine, Told, whole, part, nothing, to_read, to_write, Meets, refused, unread, unwritten_file, unwritten, starved, starved_writing, Ending, done, told, Goes}
+use Rattle.bm_course.specs.Clauses.{HasWritten, IsRefused, IsUnread, IsUnwritten, IsStarved, Reports, StopsAtOnce}
 
 -- how a call went, by its status
-pub data Outcome (told : Option Held) (before now : Seen) (course : Course Output) (status : ℕ) : Type 0 where
-  was_written : HasWritten told before now course status → Outcome told before now course status
-  was_refused : IsRefused told before now course status → Outcome told before now course status
-  was_unread : IsUnread told before now course → status ≡ 9 → Outcome told before now course status
-  was_unwritten : IsUnwritten told before now course → status ≡ 10 → Outcome told before now course status
-  was_starved : status ≡ 11 → Outcome told before now course status
+pub data Outcome (before now : Seen) (course : Course Product) (status : ℕ) : Type 0 where
+  was_written : HasWritten before now course status → Outcome before now course status
+  was_refused : IsRefused before now course status → Outcome before now course status
+  was_unread : IsUnread before now course → status ≡ 9 → Outcome before now course status
+  was_unwritten : IsUnwritten before now course → status ≡ 10 → Outcome before now course status
+  was_starved : IsStarved before now course → status ≡ 11 → Outcome before now course status
 
-module _ (told : Option Held) (before now : Seen) (course : Course Output) (status : ℕ) where
-  by_report : (contents names : List (List ℕ)) → IsReading told course contents names → (r : Refused) → Reports before now r status → (status ≡ r.status → Outcome told before now course status) → Outcome told before now course status
-  by_report contents names q r h f = elim (reported before.err now.err before.err_faults now.err_faults r status h) [
-    | inl e ↦ f e
-    | inr e ↦ elim e [
-      | inl x ↦ was_unwritten (record { contents = contents; names = names; reading = q; failed = inr (r, x.1.0, x.1.1) }) x.0
-      | inr x ↦ was_starved x
-    ]
-  ]
+module _ (before now : Seen) (course : Course Product) (status : ℕ) where
+  module _ (contents names : List (List ℕ)) (reading : IsReading before.files.held course contents names) (r : Refused) where
+    -- a refusal whose whole line was taken
+    by_whole : Meets before now course contents names r → status ≡ r.status → TakesLine before.err.taken now.err.taken r.line → Outcome before now course status
+    by_whole (refused e a o) q t =
+        was_refused (record { contents = contents; names = names; reading = reading; refusal = r; refuses = e; asked = a; rests = o; err = t; status_is = q })
+    by_whole (unread name most e a f o k) q t =
+        was_unread
+        (record {
+          contents = contents;
+          names = names;
+          reading = reading;
+          name = name;
+          most = most;
+          asks = e;
+          asked = a;
+          rose = f;
+          rests = o;
+          err = subst (λ x. TakesLine before.err.taken now.err.taken x.line) k t;
+        })
+        (q ∙ ap (λ x. x.status) k)
+    by_whole (unwritten_file p file g e a f o k) q t =
+        let s : r.status ≡ 10 = ap (λ x. x.status) k in
+        was_unwritten (record { contents = contents; names = names; reading = reading; refusal = r; meets = unwritten_file p file g e a f o k; err = inl (s, t) }) (q ∙ s)
+    by_whole (unwritten p g h a f k) q t =
+        let s : r.status ≡ 10 = ap (λ x. x.status) k in
+        was_unwritten (record { contents = contents; names = names; reading = reading; refusal = r; meets = unwritten p g h a f k; err = inl (s, t) }) (q ∙ s)
+    by_whole (starved a o k) q t =
+        let s : r.status ≡ 11 = ap (λ x. x.status) k in
+        was_starved (record { contents = contents; names = names; reading = reading; refusal = r; meets = starved a o k; err = inl (s, t) }) (q ∙ s)
+    by_whole (starved_writing p g h a k) q t =
+        let s : r.status ≡ 11 = ap (λ x. x.status) k in
+        was_starved (record { contents = contents; names = names; reading = reading; refusal = r; meets = starved_writing p g h a k; err = inl (s, t) }) (q ∙ s)
 
-  by_ending : (contents names : List (List ℕ)) → IsReading told course contents names → Ending before now course contents names status → Outcome told before now course status
-  by_ending contents names r (done o e a t n k) =
-      was_written (record { contents = contents; names = names; reading = r; output = o; gives = e; asked = a; out = t; err = n; status_is = k })
-  by_ending contents names r (refused f e a o k) =
-      by_report contents names r f k (λ s. was_refused (record { contents = contents; names = names; reading = r; refusal = f; refuses = e; asked = a; out = o; reported = k; status_is = s }))
-  by_ending contents names r (unread n m e a f o k) =
-      by_report contents names r (cannot_read n) k (λ s. was_unread (record { contents = contents; names = names; reading = r; name = n; most = m; asks = e; asked = a; rose = f; out = o }) s)
-  by_ending contents names r (unwritten o e a t f k) =
-      by_report contents names r cannot_write k (λ s. was_unwritten (record { contents = contents; names = names; reading = r; failed = inl (o, e, a, t, f) }) s)
-  by_ending contents names r (starved a o k) = by_report contents names r no_memory k was_starved
-  by_ending contents names r (starved_writing o e a t k) = by_report contents names r no_memory k was_starved
+    by_report : Meets before now course contents names r → Told before.err now.err r status → Outcome before now course status
+    by_report m (whole t q) = by_whole m q t
+    by_report m (part t f q) = was_unwritten (record { contents = contents; names = names; reading = reading; refusal = r; meets = m; err = inr (t, f) }) q
+    by_report m (nothing t q) = was_starved (record { contents = contents; names = names; reading = reading; refusal = r; meets = m; err = inr t }) q
 
-  pub outcome : Goes told before now course status → Outcome told before now course status
+  by_ending : (contents names : List (List ℕ)) → IsReading before.files.held course contents names → Ending before now course contents names status → Outcome before now course status
+  by_ending contents names reading (done p g s t n k) =
+      was_written (record { contents = contents; names = names; reading = reading; product = p; gives = g; files = s; out = t; err = n; status_is = k })
+  by_ending contents names reading (told r m k) = by_report contents names reading r m k.line
+
+  pub outcome : Goes before now course status → Outcome before now course status
   outcome h = by_ending h.contents h.names h.reading h.ending
 
--- the clauses of a call whose refusals and outputs have their statuses
-module _ (told : Option Held) (before now : Seen) (course : Course Output) (status : ℕ) (b : Bounds (λ r. IsRefusal r.status) (λ o. HasEnded o.status) course) where
-  refusal_status : IsRefused told before now course status → IsRefusal status
+-- a status stands for one thing
+module _ (status : ℕ) where
+  of_read : status ≡ 9 → Is OfRead status
+  of_read e = ap kind_of e
+
+  of_write : status ≡ 10 → Is OfWrite status
+  of_write e = ap kind_of e
+
+  of_memory : status ≡ 11 → Is OfMemory status
+  of_memory e = ap kind_of e
+
+  one_kind : (k l : Kind) → Is k status → Is l status → k ≡ l
+  one_kind k l h i = let e : Some k ≡ Some l = sym h ∙ i in cc
+
+  not_ended : (l : Kind) → (Ended ≡ l → ⊥) → HasEnded status → Is l status → ⊥
+  not_ended l n h i = n (one_kind Ended l h i)
+
+  not_refused : (l : Kind) → (OfWords ≡ l → ⊥) → (OfContent ≡ l → ⊥) → IsRefusal status → Is l status → ⊥
+  not_refused l n m (inl h) i = n (one_kind OfWords l h i)
+  not_refused l n m (inr h) i = m (one_kind OfContent l h i)
+
+-- the clauses of a call whose refusals and products have their statuses
+module _ (before now : Seen) (course : Course Product) (status : ℕ) (b : Bounds (λ r. IsRefusal r.status) (λ p. HasEnded p.text.status) course) where
+  refusal_status : IsRefused before now course status → IsRefusal status
   refusal_status r = subst IsRefusal (sym r.status_is) (b.refuses r.contents r.refusal r.refuses)
 
-  output_status : HasWritten told before now course status → HasEnded status
-  output_status w = subst HasEnded (sym w.status_is) (b.gives w.contents [] w.output w.gives)
+  product_status : HasWritten before now course status → HasEnded status
+  product_status w = subst HasEnded (sym w.status_is) (b.gives w.contents [] w.product w.gives)
 
-  not_both : HasEnded status → IsRefusal status → ⊥
-  not_both (inl e) (inl x) = omega arith
-  not_both (inl e) (inr x) = omega arith
-  not_both (inr e) (inl x) = omega arith
-  not_both (inr e) (inr x) = omega arith
+  ended_refused : HasEnded status → IsRefusal status → ⊥
+  ended_refused h i = not_refused status Ended (λ e. cc) (λ e. cc) i h
 
-  ended_few : (n : ℕ) → 9 ≤ n → n ≤ 11 → HasEnded status → status ≡ n → ⊥
-  ended_few n l m (inl e) h = omega arith
-  ended_few n l m (inr e) h = omega arith
+  ended_other : (l : Kind) → (Ended ≡ l → ⊥) → Is l status → HasEnded status → ⊥
+  ended_other l n i h = not_ended status l n h i
 
-  refused_few : (n : ℕ) → 9 ≤ n → n ≤ 11 → IsRefusal status → status ≡ n → ⊥
-  refused_few n l m (inl e) h = omega arith
-  refused_few n l m (inr e) h = omega arith
+  refused_other : (l : Kind) → (OfWords ≡ l → ⊥) → (OfContent ≡ l → ⊥) → Is l status → IsRefusal status → ⊥
+  refused_other l n m i h = not_refused status l n m h i
 
-  pub ended_only : Outcome told before now course status → HasEnded status → HasWritten told before now course status
+  pub ended_only : Outcome before now course status → HasEnded status → HasWritten before now course status
   ended_only (was_written w) h = w
-  ended_only (was_refused r) h = absurd (not_both h (refusal_status r))
-  ended_only (was_unread u e) h = absurd (ended_few 9 (omega arith) (omega arith) h e)
-  ended_only (was_unwritten r e) h = absurd (ended_few 10 (omega arith) (omega arith) h e)
-  ended_only (was_starved e) h = absurd (ended_few 11 (omega arith) (omega arith) h e)
+  ended_only (was_refused r) h = absurd (ended_refused h (refusal_status r))
+  ended_only (was_unread u e) h = absurd (ended_other OfRead (λ x. cc) (of_read status e) h)
+  ended_only (was_unwritten u e) h = absurd (ended_other OfWrite (λ x. cc) (of_write status e) h)
+  ended_only (was_starved u e) h = absurd (ended_other OfMemory (λ x. cc) (of_memory status e) h)
 
-  pub refused_only : Outcome told before now course status → IsRefusal status → IsRefused told before now course status
-  refused_only (was_written w) h = absurd (not_both (output_status w) h)
+  pub refused_only : Outcome before now course status → IsRefusal status → IsRefused before now course status
+  refused_only (was_written w) h = absurd (ended_refused (product_status w) h)
   refused_only (was_refused r) h = r
-  refused_only (was_unread u e) h = absurd (refused_few 9 (omega arith) (omega arith) h e)
-  refused_only (was_unwritten r e) h = absurd (refused_few 10 (omega arith) (omega arith) h e)
-  refused_only (was_starved e) h = absurd (refused_few 11 (omega arith) (omega arith) h e)
+  refused_only (was_unread u e) h = absurd (refused_other OfRead (λ x. cc) (λ x. cc) (of_read status e) h)
+  refused_only (was_unwritten u e) h = absurd (refused_other OfWrite (λ x. cc) (λ x. cc) (of_write status e) h)
+  refused_only (was_starved u e) h = absurd (refused_other OfMemory (λ x. cc) (λ x. cc) (of_memory status e) h)
 
-  pub unread_only : Outcome told before now course status → status ≡ 9 → IsUnread told before now course
-  unread_only (was_written w) h = absurd (ended_few 9 (omega arith) (omega arith) (output_status w) h)
-  unread_only (was_refused r) h = absurd (refused_few 9 (omega arith) (omega arith) (refusal_status r) h)
+  pub unread_only : Outcome before now course status → status ≡ 9 → IsUnread before now course
+  unread_only (was_written w) h = absurd (ended_other OfRead (λ x. cc) (of_read status h) (product_status w))
+  unread_only (was_refused r) h = absurd (refused_other OfRead (λ x. cc) (λ x. cc) (of_read status h) (refusal_status r))
   unread_only (was_unread u e) h = u
-  unread_only (was_unwritten r e) h = absurd (omega arith)
-  unread_only (was_starved e) h = absurd (omega arith)
+  unread_only (was_unwritten u e) h = absurd (omega arith)
+  unread_only (was_starved u e) h = absurd (omega arith)
 
-  pub unwritten_only : Outcome told before now course status → status ≡ 10 → IsUnwritten told before now course
-  unwritten_only (was_written w) h = absurd (ended_few 10 (omega arith) (omega arith) (output_status w) h)
-  unwritten_only (was_refused r) h = absurd (refused_few 10 (omega arith) (omega arith) (refusal_status r) h)
+  pub unwritten_only : Outcome before now course status → status ≡ 10 → IsUnwritten before now course
+  unwritten_only (was_written w) h = absurd (ended_other OfWrite (λ x. cc) (of_write status h) (product_status w))
+  unwritten_only (was_refused r) h = absurd (refused_other OfWrite (λ x. cc) (λ x. cc) (of_write status h) (refusal_status r))
   unwritten_only (was_unread u e) h = absurd (omega arith)
-  unwritten_only (was_unwritten r e) h = r
-  unwritten_only (was_starved e) h = absurd (omega arith)
+  unwritten_only (was_unwritten u e) h = u
+  unwritten_only (was_starved u e) h = absurd (omega arith)
 
-  pub some_status : Outcome told before now course status → IsStatus status
-  some_status (was_written w) = inl (output_status w)
-  some_status (was_refused r) = inr (inl (refusal_status r))
-  some_status (was_unread u e) = inr (inr (inl e))
-  some_status (was_unwritten r e) = inr (inr (inr (inl e)))
-  some_status (was_starved e) = inr (inr (inr (inr e)))
+  pub starved_only : Outcome before now course status → status ≡ 11 → IsStarved before now course
+  starved_only (was_written w) h = absurd (ended_other OfMemory (λ x. cc) (of_memory status h) (product_status w))
+  starved_only (was_refused r) h = absurd (refused_other OfMemory (λ x. cc) (λ x. cc) (of_memory status h) (refusal_status r))
+  starved_only (was_unread u e) h = absurd (omega arith)
+  starved_only (was_unwritten u e) h = absurd (omega arith)
+  starved_only (was_starved u e) h = u
 
-  pub faultless : Outcome told before now course status → (Rose before.file_faults now.file_faults → ⊥) → (Rose before.out_faults now.out_faults → ⊥) → (Rose before.err_faults now.err_faults → ⊥)
-      → HasWritten told before now course status ⊎ IsRefused told before now course status ⊎ (status ≡ 11)
-  faultless (was_written w) f o e = inl w
-  faultless (was_refused r) f o e = inr (inl r)
-  faultless (was_unread u k) f o e = absurd (f u.rose)
-  faultless (was_unwritten u k) f o e = elim u.failed [ inl x ↦ absurd (o x.4) | inr x ↦ absurd (e x.2) ]
-  faultless (was_starved k) f o e = inr (inr k)
+  pub some_status : Outcome before now course status → IsStatus status
+  some_status (was_written w) = (Ended, product_status w)
+  some_status (was_refused r) = elim (refusal_status r) [ inl h ↦ (OfWords, h) | inr h ↦ (OfContent, h) ]
+  some_status (was_unread u e) = (OfRead, of_read status e)
+  some_status (was_unwritten u e) = (OfWrite, of_write status e)
+  some_status (was_starved u e) = (OfMemory, of_memory status e)
+
+  module _ (files : Rose before.files.faults now.files.faults → ⊥) (out : Rose before.out.faults now.out.faults → ⊥) (err : Rose before.err.faults now.err.faults → ⊥) where
+    -- a write that failed shows in a count
+    shows : (contents names : List (List ℕ)) (r : Refused) → Meets before now course contents names r → r.status ≡ 10 → ⊥
+    shows contents names r (refused e a o) s = not_refused r.status OfWrite (λ x. cc) (λ x. cc) (b.refuses contents r e) (of_write r.status s)
+    shows contents names r (unread name most e a f o k) s = files f
+    shows contents names r (unwritten_file p file g e a f o k) s = files f
+    shows contents names r (unwritten p g h a f k) s = out f
+    shows contents names r (starved a o k) s = let e : r.status ≡ 11 = ap (λ x. x.status) k in omega arith
+    shows contents names r (starved_writing p g h a k) s = let e : r.status ≡ 11 = ap (λ x. x.status) k in omega arith
+
+    pub faultless : Outcome before now course status → HasWritten before now course status ⊎ IsRefused before now course status ⊎ (status ≡ 11)
+    faultless (was_written w) = inl w
+    faultless (was_refused r) = inr (inl r)
+    faultless (was_unread u k) = absurd (files u.rose)
+    faultless (was_unwritten u k) = elim u.err [ inl x ↦ absurd (shows u.contents u.names u.refusal u.meets x.0) | inr x ↦ absurd (err x.1) ]
+    faultless (was_starved u k) = inr (inr k)
 
 -- words that are refused at once
-no_names : (told : Option Held) (r : Refused) (contents names : List (List ℕ)) → IsReading told (refuse {A = Output} r) contents names → names ≡ []
-no_names told r [] [] h = refl
-no_names told r (c ∷ cs) (n ∷ ns) h = let e = h.1 in let no : ⊥ = cc in absurd no
-no_names told r [] (n ∷ ns) h = absurd h
-no_names told r (c ∷ cs) [] h = absurd h
+module _ (before now : Seen) (q : Refused) (status : ℕ) where
+  no_names : (contents names : List (List ℕ)) → IsReading before.files.held (refuse {A = Product} q) contents names → names ≡ []
+  no_names [] [] h = refl
+  no_names (c ∷ cs) (n ∷ ns) h = let e = h.1 in let no : ⊥ = cc in absurd no
+  no_names [] (n ∷ ns) h = absurd h
+  no_names (c ∷ cs) [] h = absurd h
 
-pub refused_at_once : (told : Option Held) (before now : Seen) (q : Refused) (status : ℕ) → Goes told before now (refuse q) status → StopsAtOnce before now q status ⊎ StopsAtOnce before now no_memory status
-refused_at_once told before now q status h = elim h.ending [
-  | done o e a t n k ↦ let no : ⊥ = cc in absurd no
-  | refused r e a o k ↦ inl (record {
-    asked = a ∙ ap (asking before.asked) (no_names told q h.contents h.names h.reading) ∙ asking-nothing before.asked;
-    out = o;
-    reported = let same : r ≡ q = cc in subst (λ r. Reports before now r status) same k;
-  })
-  | unread name most e a r o k ↦ let no : ⊥ = cc in absurd no
-  | unwritten o e a t r k ↦ let no : ⊥ = cc in absurd no
-  | starved a o k ↦ inr (record {
-    asked = elim a [
-      | inl b ↦ b ∙ ap (asking before.asked) (no_names told q h.contents h.names h.reading) ∙ asking-nothing before.asked
-      | inr b ↦ let e = b.2 in let no : ⊥ = cc in absurd no
-    ];
-    out = o;
-    reported = k;
-  })
-  | starved_writing o e a t k ↦ let no : ⊥ = cc in absurd no
-]
+  abbrev Once : Type 0
+  Once = StopsAtOnce before now q status ⊎ StopsAtOnce before now no_memory status
 
--- bounds of courses, part by part
-module _ (P : Refused → Type 0) where
-  pub file-bounds : (name : List ℕ) (most : ℕ) (Q : List ℕ → Type 0) → ((x : List ℕ) → Q x) → Bounds P Q (file name most)
-  file-bounds name most Q q = record { refuses = refuses_not; gives = λ contents rest x h. q x }
-    where
-      refuses_not : (cs : List (List ℕ)) (r : Refused) → file name most cs (Refuses r) → P r
-      refuses_not [] r h = let no : ⊥ = cc in absurd no
-      refuses_not (c ∷ cs) r h = let no : ⊥ = cc in absurd no
+  once : (contents names : List (List ℕ)) → names ≡ [] → (r : Refused) → Meets before now (refuse q) contents names r → Reports before now r status → Once
+  once contents names n r (refused e a o) k =
+      let same : r ≡ q = cc in
+      inl (record {
+        asked = a ∙ ap (asking before.files.asked) n ∙ asking-nothing before.files.asked;
+        rests = o;
+        reported = subst (λ x. Reports before now x status) same k;
+      })
+  once contents names n r (unread name most e a f o x) k = let no : ⊥ = cc in absurd no
+  once contents names n r (unwritten_file p file g e a f o x) k = let no : ⊥ = cc in absurd no
+  once contents names n r (unwritten p g h a f x) k = let no : ⊥ = cc in absurd no
+  once contents names n r (starved (inl a) o x) k =
+      inr (record {
+        asked = a ∙ ap (asking before.files.asked) n ∙ asking-nothing before.files.asked;
+        rests = o;
+        reported = subst (λ x. Reports before now x status) x k;
+      })
+  once contents names n r (starved (inr b) o x) k = elim b.1 [
+    | to_read name most e ↦ let no : ⊥ = cc in absurd no
+    | to_write p file g e ↦ let no : ⊥ = cc in absurd no
+  ]
+  once contents names n r (starved_writing p g h a x) k = let no : ⊥ = cc in absurd no
 
-  pub give-bounds : {A : Type 0} (Q : A → Type 0) (x : A) → Q x → Bounds P Q (give x)
-  give-bounds Q x q = record {
-    refuses = λ cs r h. let no : ⊥ = cc in absurd no;
-    gives = λ cs rest y h. let e : y ≡ x = cc in subst Q (sym e) q;
-  }
-
-  pub refuse-bounds : {A : Type 0} (Q : A → Type 0) (r : Refused) → P r → Bounds P Q (refuse r)
-  refuse-bounds Q r p = record {
-    refuses = λ cs s h. let e : s ≡ r = cc in subst P (sym e) p;
-    gives = λ cs rest y h. let no : ⊥ = cc in absurd no;
-  }
-
-  pub judge-bounds : {A : Type 0} (Q : A → Type 0) (J : Result A Refused → Type 0) → ((x : A) → J (Ok x) → Q x) → ((r : Refused) → J (Err r) → P r) → Bounds P Q (judge J)
-  judge-bounds {A = A} Q J q p = record { refuses = refuses_by; gives = gives_by }
-    where
-      refuses_by : (cs : List (List ℕ)) (r : Refused) → judge J cs (Refuses r) → P r
-      refuses_by cs r (accepted x j e) = let no : ⊥ = cc in absurd no
-      refuses_by cs r (rejected s j e) = let v : r ≡ s = cc in subst P (sym v) (p s j)
-
-      gives_by : (cs rest : List (List ℕ)) (x : A) → judge J cs (Gives x rest) → Q x
-      gives_by cs rest x (accepted y j e) = let v : x ≡ y = cc in subst Q (sym v) (q y j)
-      gives_by cs rest x (rejected s j e) = let no : ⊥ = cc in absurd no
-
-  pub then-bounds : {A B : Type 0} (Q : A → Type 0) (R : B → Type 0) (m : Course A) (f : A → Course B) → Bounds P Q m → ((x : A) → Q x → Bounds P R (f x)) → Bounds P R (m >>= f)
-  then-bounds {A = A} {B = B} Q R m f b k = record { refuses = refuses_by; gives = gives_by }
-    where
-      refuses_by : (cs : List (List ℕ)) (r : Refused) → (m >>= f) cs (Refuses r) → P r
-      refuses_by cs r (asks n l h e) = let no : ⊥ = cc in absurd no
-      refuses_by cs r (refuses s h e) = let v : r ≡ s = cc in subst P (sym v) (b.refuses cs s h)
-      refuses_by cs r (gives x rest h e) = (k x (b.gives cs rest x h)).refuses rest r e
-
-      gives_by : (cs rest : List (List ℕ)) (y : B) → (m >>= f) cs (Gives y rest) → R y
-      gives_by cs rest y (asks n l h e) = let no : ⊥ = cc in absurd no
-      gives_by cs rest y (refuses s h e) = let no : ⊥ = cc in absurd no
-      gives_by cs rest y (gives x more h e) = (k x (b.gives cs more x h)).gives more rest y e
-
-  pub limited-bounds : (name : List ℕ) (most : ℕ) → P (too_long name most) → Bounds P (λ x. length x ≤ most) (limited name most)
-  limited-bounds name most p =
-      then-bounds (λ x. Unit {0}) (λ x. length x ≤ most) (file name most) (λ bytes. judge (Fits name most bytes)) (file-bounds name most (λ x. Unit {0}) (λ x. tt))
-      (λ bytes q. judge-bounds (λ x. length x ≤ most) (Fits name most bytes) (λ x j. subst (λ y. length y ≤ most) (sym j.0) j.1) (λ r j. subst P (sym j.0) p))
-
-pub content_refusal : (n : ℕ) → IsOfContent n → IsRefusal n
-content_refusal n (inl x) = inl (omega arith, omega arith)
-content_refusal n (inr x) = inr x
-
-pub content_only : (n : ℕ) → IsOfContent n → n ≡ 1 → ⊥
-content_only n (inl x) e = omega arith
-content_only n (inr x) e = omega arith
-
--- what is so of a course is so by more
-pub wider-bounds : {A : Type 0} (P R : Refused → Type 0) (Q : A → Type 0) (m : Course A) → ((r : Refused) → P r → R r) → Bounds P Q m → Bounds R Q m
-wider-bounds P R Q m f b = record { refuses = λ cs r h. f r (b.refuses cs r h); gives = b.gives }
+  pub refused_at_once : Goes before now (refuse q) status → Once
+  refused_at_once h = elim h.ending [
+    | done p g s t n k ↦ let no : ⊥ = cc in absurd no
+    | told r m k ↦ once h.contents h.names (no_names h.contents h.names h.reading) r m k
+  ]

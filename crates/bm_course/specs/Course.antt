@@ -1,16 +1,30 @@
 -- What a command asks for, file by file, and what it comes to.
-use Rattle.std.specs.Prelude.{ℕ, ◌≡◌, ◌+◌, ◌≤◌, List, [], ◌∷◌, length, Option, Result, Ok, Err}
+use Rattle.std.specs.Prelude.{ℕ, ◌≡◌, ◌+◌, ◌≤◌, List, [], ◌∷◌, length, Option, None, Result, Ok, Err}
 use Rattle.bm_io.specs.Files.{Held, Reads}
 
--- a refusal: its status, and the pieces of its line, one write each
+-- a refusal: its status, and its line, which is one write
 pub record Refused : Type 0 where
   pub status : ℕ
-  pub line : List (List ℕ)
+  pub line : List ℕ
 
--- what a command writes: its status, and its lines, one write each
+-- a text: its status, and its lines, one write each
 pub record Output : Type 0 where
   pub status : ℕ
   pub lines : List (List ℕ)
+
+-- a file that is put or replaced
+pub record NewFile : Type 0 where
+  pub name : List ℕ
+  pub bytes : List ℕ
+
+-- what a command writes: perhaps a file, and then a text
+pub record Product : Type 0 where
+  pub file : Option NewFile
+  pub text : Output
+
+-- a text alone
+abbrev pub text_only : Output → Product
+text_only text = record { file = None; text = text }
 
 -- It asks for a file, up to so many bytes and one more; or it refuses; or it gives a value, and the contents that are left.
 pub data Step (A : Type 0) : Type 0 where
@@ -54,7 +68,8 @@ m >>= f = λ contents s. Then (m contents) f s
 -- These contents were read, one after another, from the files of these names, as the course asked.
 abbrev pub IsReading : {A : Type 0} → Option Held → Course A → List (List ℕ) → List (List ℕ) → Type 0
 IsReading told course [] [] = Unit {0}
-IsReading told course (bytes ∷ contents) (name ∷ names) = (most : ℕ) × course [] (Asks name most) × Reads told name most bytes × (length bytes ≤ most + 1)
+IsReading told course (bytes ∷ contents) (name ∷ names) = (most : ℕ) × course [] (Asks name most) × Reads told name most bytes
+    × (length bytes ≤ most + 1)
     × IsReading told (λ rest. course (bytes ∷ rest)) contents names
 IsReading told course [] (name ∷ names) = ⊥
 IsReading told course (bytes ∷ contents) [] = ⊥

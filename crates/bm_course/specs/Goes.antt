@@ -1,73 +1,86 @@
 -- How a call of the program goes.
-use Rattle.std.specs.Prelude.{ℕ, ◌≡◌, ◌⊎◌, List, [], ◌∷◌, ◌++◌, Option, Result, Ok, Err, IsErrOf}
-use Rattle.std.specs.List.{concat}
-use Rattle.bm_io.specs.Causes.{Rose}
-use Rattle.bm_io.specs.Files.{Held, asking}
-use Rattle.bm_io.specs.Sink.{Takes, TakesWhole, TakesPart, Sent}
-use Rattle.bm_io.specs.declared.sinks.SinkFault.{SinkFault}
-use Rattle.bm_io.specs.declared.sinks.SinkFault.TheVariants.{Failed, Memory}
-use Rattle.bm_course.specs.Course.{Refused, Output, Asks, Refuses, Gives, Course, IsReading}
-use Rattle.bm_course.specs.Lines.{cannot_read, cannot_write, no_memory}
+use Rattle.std.specs.Prelude.{ℕ, ◌≡◌, ◌≤◌, ◌⊎◌, List, [], ◌∷◌, ◌++◌, Some}
+use Rattle.bm_io.specs.Causes.{Rose, next_call}
+use Rattle.bm_io.specs.LineValues.{TakesPrefix}
+use Rattle.bm_io.specs.Sink.{Taken, written, tried, Takes, TakesWhole, TakesPart}
+use Rattle.bm_course.specs.declared.status.TheConstants.{UNWRITTEN, MEMORY}
+use Rattle.bm_course.specs.Course.{Refused, NewFile, Product, Asks, Refuses, Gives, Course, IsReading}
+use Rattle.bm_course.specs.Seen.{SinkSeen, Seen, Later, Asked, Stands, Untouched}
+use Rattle.bm_course.specs.Lines.{cannot_read, cannot_write_file, cannot_write, no_memory}
 
--- the refusal's own status, unless a write of its line was refused
-abbrev pub status_after : {T : Type 0} → ℕ → Result T SinkFault → ℕ
-status_after status (Ok x) = status
-status_after status (Err Failed) = 10
-status_after status (Err Memory) = 11
+-- one write took the whole line
+abbrev pub TakesLine : Taken → Taken → List ℕ → Type 0
+TakesLine before now line = now ≡ written before line
 
--- The line of a refusal was sent, and this is the status.
-pub record Reported (before now : Option (List ℕ)) (faults_before faults_now : ℕ) (r : Refused) (status : ℕ) : Type 0 where
-  pub told : Result (Unit {0}) SinkFault
-  pub sent : Sent before now r.line told
-  pub rose : IsErrOf told Failed → Rose faults_before faults_now
-  pub status_is : status ≡ status_after r.status told
+-- nothing was taken: there was no write, or one that took nothing
+abbrev pub TakesNothing : Taken → Taken → Type 0
+TakesNothing before now = (now ≡ before) ⊎ (now ≡ tried before)
 
--- what the files, the output and the errors show before a call and after it
-pub record Seen : Type 0 where
-  pub asked : Option (List (List ℕ))
-  pub file_faults : ℕ
-  pub out : Option (List ℕ)
-  pub out_faults : ℕ
-  pub err : Option (List ℕ)
-  pub err_faults : ℕ
+-- there was one write
+abbrev pub WritesOnce : Taken → Taken → Type 0
+WritesOnce before now = now.writes ≡ next_call before.writes
 
-abbrev pub seen : {F O E : Type 0} → (F → Option (List (List ℕ))) → (F → ℕ) → (O → Option (List ℕ)) → (O → ℕ) → (E → Option (List ℕ)) → (E → ℕ) → F → O → E → Seen
-seen asked file_faults out_taken out_faults err_taken err_faults files out err = record {
-  asked = asked files;
-  file_faults = file_faults files;
-  out = out_taken out;
-  out_faults = out_faults out;
-  err = err_taken err;
-  err_faults = err_faults err;
-}
+-- The line of a refusal was sent, in one write, and this is the status.
+pub data Told (before now : SinkSeen) (r : Refused) (status : ℕ) : Type 0 where
+  -- the write took the line: the refusal has its own status
+  whole : TakesLine before.taken now.taken r.line → status ≡ r.status → Told before now r status
+  -- the write failed, behind a prefix of the line
+  part : TakesPrefix before.taken now.taken r.line → Rose before.faults now.faults → status ≡ UNWRITTEN → Told before now r status
+  -- there was no memory to make the line of its parts, or in the write
+  nothing : TakesNothing before.taken now.taken → status ≡ MEMORY → Told before now r status
 
--- the refusal is reported at the end of the call
-abbrev pub Reports : Seen → Seen → Refused → ℕ → Type 0
-Reports before now r status = Reported before.err now.err before.err_faults now.err_faults r status
+-- A refusal was told, and no count of faults fell.
+pub record Reported (before now : SinkSeen) (r : Refused) (status : ℕ) : Type 0 where
+  pub line : Told before now r status
+  pub later : before.faults ≤ now.faults
 
-pub data Ending (before now : Seen) (course : Course Output) (contents names : List (List ℕ)) (status : ℕ) : Type 0 where
-  -- the whole text was written
-  done : (o : Output) → course contents (Gives o []) → now.asked ≡ asking before.asked names
-      → Takes before.out now.out (concat o.lines) → now.err ≡ before.err → status ≡ o.status → Ending before now course contents names status
+-- neither a held file nor the output was touched
+abbrev pub Rests : Seen → Seen → Type 0
+Rests before now = Untouched before.files now.files before.out now.out
+
+-- the name that comes next: of a file that the course reads, or of the one that it writes
+pub data IsNext (course : Course Product) (contents : List (List ℕ)) : List ℕ → Type 0 where
+  to_read : (name : List ℕ) (most : ℕ) → course contents (Asks name most) → IsNext course contents name
+  to_write : (p : Product) (file : NewFile) → course contents (Gives p []) → p.file ≡ Some file → IsNext course contents file.name
+
+-- A call met this refusal, behind these contents of the files of these names.
+pub data Meets (before now : Seen) (course : Course Product) (contents names : List (List ℕ)) (r : Refused) : Type 0 where
   -- the words or a content refuse, before the writes
-  refused : (r : Refused) → course contents (Refuses r) → now.asked ≡ asking before.asked names
-      → now.out ≡ before.out → Reports before now r status → Ending before now course contents names status
+  refused : course contents (Refuses r) → Asked before.files now.files names → Rests before now → Meets before now course contents names r
   -- the next file was asked for, and its read failed
-  unread : (name : List ℕ) (most : ℕ) → course contents (Asks name most) → now.asked ≡ asking before.asked (names ++ name ∷ [])
-      → Rose before.file_faults now.file_faults → now.out ≡ before.out → Reports before now (cannot_read name) status → Ending before now course contents names status
+  unread : (name : List ℕ) (most : ℕ) → course contents (Asks name most) → Asked before.files now.files (names ++ name ∷ [])
+      → Rose before.files.faults now.files.faults → Rests before now → r ≡ cannot_read name → Meets before now course contents names r
+  -- the write of the file failed
+  unwritten_file : (p : Product) (file : NewFile) → course contents (Gives p []) → p.file ≡ Some file
+      → Asked before.files now.files (names ++ file.name ∷ [])
+      → Rose before.files.faults now.files.faults → Rests before now → r ≡ cannot_write_file file.name
+      → Meets before now course contents names r
   -- a write of a line failed
-  unwritten : (o : Output) → course contents (Gives o []) → now.asked ≡ asking before.asked names
-      → TakesPart before.out now.out o.lines → Rose before.out_faults now.out_faults → Reports before now cannot_write status → Ending before now course contents names status
-  -- want of memory before the writes
-  starved : (now.asked ≡ asking before.asked names) ⊎ ((name : List ℕ) × (most : ℕ) × (course contents (Asks name most)) × (now.asked ≡ asking before.asked (names ++ name ∷ [])))
-      → now.out ≡ before.out → Reports before now no_memory status → Ending before now course contents names status
-  -- want of memory at a write
-  starved_writing : (o : Output) → course contents (Gives o []) → now.asked ≡ asking before.asked names
-      → TakesWhole before.out now.out o.lines → Reports before now no_memory status → Ending before now course contents names status
+  unwritten : (p : Product) → course contents (Gives p []) → Stands before.files now.files names p.file
+      → TakesPart before.out.taken now.out.taken p.text.lines
+      → Rose before.out.faults now.out.faults → r ≡ cannot_write → Meets before now course contents names r
+  -- want of memory before the text
+  starved : Asked before.files now.files names ⊎ ((name : List ℕ) × IsNext course contents name
+      × Asked before.files now.files (names ++ name ∷ []))
+      → Rests before now → r ≡ no_memory → Meets before now course contents names r
+  -- want of memory at the text, behind some whole lines
+  starved_writing : (p : Product) → course contents (Gives p []) → Stands before.files now.files names p.file
+      → TakesWhole before.out.taken now.out.taken p.text.lines
+      → r ≡ no_memory → Meets before now course contents names r
+
+pub data Ending (before now : Seen) (course : Course Product) (contents names : List (List ℕ)) (status : ℕ) : Type 0 where
+  -- the file and the whole text were written
+  done : (p : Product) → course contents (Gives p []) → Stands before.files now.files names p.file
+      → Takes before.out.taken now.out.taken p.text.lines
+      → now.err ≡ before.err → status ≡ p.text.status → Ending before now course contents names status
+  -- a refusal was met, and its line was sent
+  told : (r : Refused) → Meets before now course contents names r → Reported before.err now.err r status
+      → Ending before now course contents names status
 
 -- The contents were read from the files of these names, as the course asked, and so it ended.
-pub record Goes (told : Option Held) (before now : Seen) (course : Course Output) (status : ℕ) : Type 0 where
+pub record Goes (before now : Seen) (course : Course Product) (status : ℕ) : Type 0 where
   pub contents : List (List ℕ)
   pub names : List (List ℕ)
-  pub reading : IsReading told course contents names
+  pub reading : IsReading before.files.held course contents names
   pub ending : Ending before now course contents names status
+  pub later : Later before now

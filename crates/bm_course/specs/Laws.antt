@@ -1,7 +1,7 @@
 -- What may be said of courses, part by part.
 use Rattle.std.specs.Prelude.{ℕ, ◌≡◌, ◌⊎◌, List, [], ◌++◌, Some, Result}
 use Rattle.bm_io.specs.Files.{Held}
-use Rattle.bm_course.specs.Course.{Refused, Output, Step, Refuses, Gives, Course, IsReading}
+use Rattle.bm_course.specs.Course.{Refused, Product, Step, Refuses, Gives, Course, IsReading}
 use Rattle.bm_course.specs.Clauses.{Leads}
 
 -- after the same contents it comes to at most one step
@@ -23,10 +23,10 @@ pub record Settles {A : Type 0} (held : Held) (course : Course A) : Type 0 where
   pub reading : IsReading (Some held) course contents names
   pub ends : ((r : Refused) × course contents (Refuses r)) ⊎ ((x : A) × ((rest : List (List ℕ)) → course (contents ++ rest) (Gives x rest)))
 
--- the held files lead the command to a refusal, or to an output
-pub data HasEnd (held : Held) (course : Course Output) : Type 0 where
+-- the held files lead the command to a refusal, or to a product
+pub data HasEnd (held : Held) (course : Course Product) : Type 0 where
   in_refusal : (names : List (List ℕ)) (r : Refused) → Leads held course names (Refuses r) → HasEnd held course
-  in_output : (names : List (List ℕ)) (o : Output) → Leads held course names (Gives o []) → HasEnd held course
+  in_product : (names : List (List ℕ)) (p : Product) → Leads held course names (Gives p []) → HasEnd held course
 
 -- each refusal is one of P, each value one of Q
 pub record Bounds {A : Type 0} (P : Refused → Type 0) (Q : A → Type 0) (course : Course A) : Type 0 where

@@ -1,7 +1,9 @@
+pub mod Status
 pub mod Course
 pub mod Lines
 pub mod Refusals
 pub mod Limited
+pub mod Seen
 pub mod Ends
 pub mod Goes
 pub mod Clauses

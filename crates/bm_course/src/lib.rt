@@ -5,9 +5,12 @@
 #![tactic(auto)]
 
 mod files;
+mod product;
 mod refusal;
 mod reporting;
+pub mod status;
 
 pub use files::{read_file, read_limited};
+pub use product::write_product;
 pub use refusal::{Refusal, Stop};
 pub use reporting::report;

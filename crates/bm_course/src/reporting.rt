@@ -1,36 +1,52 @@
 // A refusal is reported.
-ghost use Rattle.std.specs.Prelude.{◌≡◌, ◌++◌, ◌∷◌, [], map, codes, decimal};
-ghost use Rattle.bm_io.specs.declared.sinks.SinkFault.TheVariants.{Failed, Memory};
-ghost use Rattle.bm_io.specs.Causes.{HasCause};
-ghost use Rattle.bm_io.specs.Sink.{Sent};
-ghost use Rattle.bm_course.specs.Goes.{Reported};
-ghost use Rattle.bm_course.specs.Refusals.{refused_as, stopped_as};
+ghost use Rattle.std.specs.Prelude.{◌≡◌, ◌++◌, codes, decimal, IfOk};
+ghost use Rattle.bm_course.specs.Seen.{sink_seen};
+ghost use Rattle.bm_course.specs.Goes.{Reported, WritesOnce};
+ghost use Rattle.bm_course.specs.Refusals.{refused_as, stopped_as, QuotesNothing, IsPlain};
 
-use crate::{Refusal, Stop};
+use crate::{Refusal, Stop, status};
 use bm_base::Piece;
 use bm_io::{Sink, SinkFault};
+use std::alloc::{AllocError, Global};
 
-/// Sends the pieces in order, one write each, up to the first that is refused.
-fn send<S: Sink>(sink: &mut S, pieces: &[&[u8]]) -> Result<(), SinkFault>
-    ensures sent { Sent (S.taken sink.old) (S.taken sink.new) (map (λ piece. piece.now) pieces.now) result }
-    ensures cause { HasCause Failed (S.faults sink.old) (S.faults sink.new) result }
+/// Sends a line, in one write, and answers its status, or that of the write that was refused.
+fn send_line<E: Sink>(err: &mut E, code: u8, line: &[u8]) -> u8
+    ensures told { Reported (sink_seen E.taken E.faults err.old) (sink_seen E.taken E.faults err.new)
+        (record { status = code; line = line.now }) result }
+    ensures once { WritesOnce (E.taken err.old) (E.taken err.new) }
 {
-    for piece in pieces {
-        if let Err(fault) = sink.write(piece) {
-            return Err(fault);
-        }
+    match err.write(line) {
+        Ok(()) => code,
+        Err(SinkFault::Failed) => status::UNWRITTEN,
+        Err(SinkFault::Memory) => status::MEMORY,
     }
-    Ok(())
 }
 
-/// Sends the pieces of a line, and answers the status, or that of the write that was refused.
-fn send_line<E: Sink>(err: &mut E, status: u8, pieces: &[&[u8]]) -> u8
-    ensures { Reported (E.taken err.old) (E.taken err.new) (E.faults err.old) (E.faults err.new) (record { status = status; line = map (λ piece. piece.now) pieces.now }) result }
+/// A line of three parts.
+fn joined(alloc: Global, before: &[u8], part: &[u8], after: &[u8]) -> Result<Vec<u8>, AllocError>
+    ensures { IfOk result (λ line. line.items ≡ before.now ++ part.now ++ after.now) }
 {
-    match send(err, pieces) {
-        Ok(()) => status,
-        Err(SinkFault::Failed) => 10,
-        Err(SinkFault::Memory) => 11,
+    let mut line = Vec::from_slice(alloc, before)?;
+    line.extend_from_slice(part)?;
+    line.extend_from_slice(after)?;
+    Ok(line)
+}
+
+/// Sends a line that quotes a part, as it is; it answers the same where there is no memory for the line.
+fn send_quoting<E: Sink>(
+    alloc: Global,
+    err: &mut E,
+    code: u8,
+    before: &[u8],
+    part: &[u8],
+    after: &[u8],
+) -> u8
+    ensures { Reported (sink_seen E.taken E.faults err.old) (sink_seen E.taken E.faults err.new)
+        (record { status = code; line = before.now ++ part.now ++ after.now }) result }
+{
+    match joined(alloc, before, part, after) {
+        Ok(line) => send_line(err, code, &line),
+        Err(_) => status::MEMORY,
     }
 }
 
@@ -45,43 +61,56 @@ fn limit_text(most: usize) -> Piece
     piece
 }
 
-fn report_refusal<E: Sink>(err: &mut E, refusal: &Refusal) -> u8
-    ensures { Reported (E.taken err.old) (E.taken err.new) (E.faults err.old) (E.faults err.new) (refused_as refusal.now) result }
+fn report_refusal<E: Sink>(alloc: Global, err: &mut E, refusal: &Refusal) -> u8
+    ensures told { Reported (sink_seen E.taken E.faults err.old) (sink_seen E.taken E.faults err.new) (refused_as refusal.now) result }
+    ensures once { QuotesNothing refusal.now → WritesOnce (E.taken err.old) (E.taken err.new) }
 {
     match refusal {
-        Refusal::Usage => send_line(err, 1, &[b"error: usage\n"]),
-        Refusal::NotBuilt => send_line(err, 12, &[b"error: not built\n"]),
-        Refusal::TooLong { name, most } => send_line(
+        Refusal::Usage => send_line(err, status::USAGE, b"error: usage\n"),
+        Refusal::TooLong { name, most, .. } => send_quoting(
+            alloc,
             err,
-            3,
-            &[b"error 34: ", name.as_bytes(), limit_text(*most).bytes()],
+            status::LIMIT,
+            b"error 34: ",
+            name.as_bytes(),
+            limit_text(*most).bytes(),
         ),
-        Refusal::Plain { status, line } => send_line(err, *status, &[line.bytes()]),
+        Refusal::Plain { status: code, line } => send_line(err, *code, line.bytes()),
         Refusal::Quoting {
-            status,
+            status: code,
             before,
             part,
             after,
-        } => send_line(
-            err,
-            *status,
-            &[before.bytes(), part.as_slice(), after.bytes()],
-        ),
+        } => send_quoting(alloc, err, *code, before.bytes(), part, after.bytes()),
     }
 }
 
-/// Sends the line of what stopped a command, and answers the status.
-pub fn report<E: Sink>(err: &mut E, stop: &Stop) -> u8
-    ensures { Reported (E.taken err.old) (E.taken err.new) (E.faults err.old) (E.faults err.new) (stopped_as stop.now) result }
+/// Sends the line of what stopped a command, in one write, and answers the status.
+///
+/// A line that quotes a name is put together first, which takes memory; where there is none, nothing is written.
+pub fn report<E: Sink>(alloc: Global, err: &mut E, stop: &Stop) -> u8
+    ensures told { Reported (sink_seen E.taken E.faults err.old) (sink_seen E.taken E.faults err.new) (stopped_as stop.now) result }
+    ensures once { IsPlain stop.now → WritesOnce (E.taken err.old) (E.taken err.new) }
 {
     match stop {
-        Stop::Refused(refusal) => report_refusal(err, refusal),
-        Stop::Unread { name } => send_line(
+        Stop::Refused(refusal) => report_refusal(alloc, err, refusal),
+        Stop::Unread { name } => send_quoting(
+            alloc,
             err,
-            9,
-            &[b"error: cannot read ", name.as_bytes(), b"\n"],
+            status::UNREAD,
+            b"error: cannot read ",
+            name.as_bytes(),
+            b"\n",
         ),
-        Stop::Unwritten => send_line(err, 10, &[b"error: cannot write the output\n"]),
-        Stop::Memory => send_line(err, 11, &[b"error: no memory\n"]),
+        Stop::UnwrittenFile { name } => send_quoting(
+            alloc,
+            err,
+            status::UNWRITTEN,
+            b"error: cannot write ",
+            name.as_bytes(),
+            b"\n",
+        ),
+        Stop::Unwritten => send_line(err, status::UNWRITTEN, b"error: cannot write the output\n"),
+        Stop::Memory => send_line(err, status::MEMORY, b"error: no memory\n"),
     }
 }

@@ -1,25 +1,27 @@
 -- Courses of sources and machines come to one step, and their refusals have their statuses.
-use Rattle.std.proofs.Common.{◌≡◌, ◌≢◌, ◌≤◌, ℕ, List, Some, Ok, Err, refl, sym, ap, ◌∙◌, inl, arith}
+use Rattle.std.proofs.Common.{◌≡◌, ◌≢◌, ◌≤◌, ℕ, List, Some, Ok, Err, refl, sym, ap, ◌∙◌, arith}
 use Rattle.bm_io.specs.Files.{Held}
+use Rattle.bm_base.specs.declared.limits.TheConstants.{MOST_SOURCE_BYTES, MOST_MACHINE_BYTES}
 use Rattle.bm_base.specs.Machine.{Machine, IsTime, IsMachine}
 use Rattle.bm_base.specs.Spec.{interval, standard}
 use Rattle.machine_file.specs.declared.fault.MachineFault.{MachineFault}
 use Rattle.machine_file.specs.declared.fault.MachineFault.TheVariants.{Memory}
 use Rattle.machine_file.specs.MachineFile.{Read, machine_of}
-use Rattle.src_names.specs.Right.{IsRight}
-use Rattle.src_front.specs.Laws.{ReadOnce, HaveOneAnswer, ReadRight, Answer, program, fault}
+use Rattle.src_names.specs.RProgram.{RProgram}
+use Rattle.src_front.specs.Laws.{ReadOnce, HaveOneAnswer, Answer, program, fault}
+use Rattle.src_front.specs.Reads.{Reads}
 use Rattle.bm_words.specs.Table.{MachineOf, Default, MachineFile}
 use Rattle.bm_course.specs.Course.{Refused, judge}
 use Rattle.bm_course.specs.Limited.{limited}
 use Rattle.bm_course.specs.Laws.{IsDetermined, HasOneVerdict, HasSomeVerdict, Settles, Bounds}
-use Rattle.bm_course.specs.Clauses.{IsOfContent}
+use Rattle.bm_course.specs.Status.{IsOfContent}
 use Rattle.bm_course.proofs.Settling.{limited-determined, then-determined, judge-determined, give-determined}
 use Rattle.bm_course.proofs.Leading.{limited-settles, then-settles, judge-settles, give-settles}
-use Rattle.bm_course.proofs.Statuses.{then-bounds, judge-bounds, give-bounds, limited-bounds}
-use Rattle.bm_lines.specs.Machine.{machine_refused}
-use Rattle.bm_lines.specs.Source.{source_refused}
-use Rattle.bm_lines.proofs.Statuses.{source_refusal, machine_refusal}
-use Rattle.bm_lines.proofs.Refusing.{source_told, machine_told}
+use Rattle.bm_course.proofs.Bounds.{then-bounds, judge-bounds, give-bounds, limited-bounds}
+use Rattle.bm_inputs.specs.MachineLines.{machine_refused}
+use Rattle.bm_inputs.specs.SourceLines.{source_refused}
+use Rattle.bm_inputs.proofs.Statuses.{source_refusal, machine_refusal}
+use Rattle.bm_inputs.proofs.Refusing.{source_told, machine_told}
 use Rattle.bm_inputs.specs.Sources.{ReadsSource, source_course}
 use Rattle.bm_inputs.specs.Machines.{ReadsMachine, machine_course}
 
@@ -27,7 +29,7 @@ abbrev pub refusal : Refused → Type 0
 refusal r = IsOfContent r.status
 
 three : IsOfContent 3
-three = inl (omega arith, omega arith)
+three = refl
 
 -- any content of a limited file
 limited-any : (name : List ℕ) (most : ℕ) → Bounds refusal (λ x. Unit {0}) (limited name most)
@@ -35,7 +37,7 @@ limited-any name most = record { refuses = (limited-bounds refusal name most thr
 
 pub source-bounds : (name : List ℕ) → Bounds refusal (λ p. Unit {0}) (source_course name)
 source-bounds name =
-    then-bounds refusal (λ x. Unit {0}) (λ p. Unit {0}) (limited name 262144) (λ bytes. judge (ReadsSource bytes)) (limited-any name 262144)
+    then-bounds refusal (λ x. Unit {0}) (λ p. Unit {0}) (limited name MOST_SOURCE_BYTES) (λ bytes. judge (ReadsSource bytes)) (limited-any name MOST_SOURCE_BYTES)
     (λ bytes t. judge-bounds refusal (λ p. Unit {0}) (ReadsSource bytes) (λ p h. tt) (λ r h. source_refusal h.0 r h.2))
 
 source-once : ReadOnce → HaveOneAnswer → (bytes : List ℕ) → HasOneVerdict (ReadsSource bytes)
@@ -49,7 +51,7 @@ source-once once one bytes (Err r) (Err q) h k =
     ap Err g
 
 pub source-determined : ReadOnce → HaveOneAnswer → (name : List ℕ) → IsDetermined (source_course name)
-source-determined once one name = then-determined (limited name 262144) (λ bytes. judge (ReadsSource bytes)) (limited-determined name 262144) (λ bytes. judge-determined (ReadsSource bytes) (source-once once one bytes))
+source-determined once one name = then-determined (limited name MOST_SOURCE_BYTES) (λ bytes. judge (ReadsSource bytes)) (limited-determined name MOST_SOURCE_BYTES) (λ bytes. judge-determined (ReadsSource bytes) (source-once once one bytes))
 
 machine-once : (bytes : List ℕ) → HasOneVerdict (ReadsMachine bytes)
 machine-once bytes (Ok p) (Ok q) h k =
@@ -67,12 +69,12 @@ machine-once bytes (Err r) (Err q) h k =
 
 pub machine-determined : (machine : MachineOf) → IsDetermined (machine_course machine)
 machine-determined Default = give-determined standard
-machine-determined (MachineFile name) = then-determined (limited name 65536) (λ bytes. judge (ReadsMachine bytes)) (limited-determined name 65536) (λ bytes. judge-determined (ReadsMachine bytes) (machine-once bytes))
+machine-determined (MachineFile name) = then-determined (limited name MOST_MACHINE_BYTES) (λ bytes. judge (ReadsMachine bytes)) (limited-determined name MOST_MACHINE_BYTES) (λ bytes. judge-determined (ReadsMachine bytes) (machine-once bytes))
 
 pub machine-bounds : (machine : MachineOf) → Bounds refusal (λ m. Unit {0}) (machine_course machine)
 machine-bounds Default = give-bounds refusal (λ m. Unit {0}) standard tt
 machine-bounds (MachineFile name) =
-    then-bounds refusal (λ x. Unit {0}) (λ m. Unit {0}) (limited name 65536) (λ bytes. judge (ReadsMachine bytes)) (limited-any name 65536)
+    then-bounds refusal (λ x. Unit {0}) (λ m. Unit {0}) (limited name MOST_MACHINE_BYTES) (λ bytes. judge (ReadsMachine bytes)) (limited-any name MOST_MACHINE_BYTES)
     (λ bytes t. judge-bounds refusal (λ m. Unit {0}) (ReadsMachine bytes) (λ m h. tt) (λ r h. machine_refusal h.0 r h.2))
 
 -- whatever the held files hold, they lead to a program, a machine or a refusal
@@ -85,7 +87,7 @@ source-some one bytes = by (one.some bytes)
 
 pub source-settles : HaveOneAnswer → (held : Held) (name : List ℕ) → Settles held (source_course name)
 source-settles one held name =
-    then-settles held (λ x. Unit {0}) (limited name 262144) (λ bytes. judge (ReadsSource bytes)) (λ contents rest x h. tt) (limited-settles held name 262144)
+    then-settles held (λ x. Unit {0}) (limited name MOST_SOURCE_BYTES) (λ bytes. judge (ReadsSource bytes)) (λ contents rest x h. tt) (limited-settles held name MOST_SOURCE_BYTES)
     (λ bytes t. judge-settles held (ReadsSource bytes) (source-some one bytes))
 
 abbrev pub MachineFaults : Type 0
@@ -101,22 +103,19 @@ machine-some told bytes = by (machine_of bytes) refl
 pub machine-settles : MachineFaults → (held : Held) (machine : MachineOf) → Settles held (machine_course machine)
 machine-settles told held Default = give-settles held standard
 machine-settles told held (MachineFile name) =
-    then-settles held (λ x. Unit {0}) (limited name 65536) (λ bytes. judge (ReadsMachine bytes)) (λ contents rest x h. tt) (limited-settles held name 65536)
+    then-settles held (λ x. Unit {0}) (limited name MOST_MACHINE_BYTES) (λ bytes. judge (ReadsMachine bytes)) (λ contents rest x h. tt) (limited-settles held name MOST_MACHINE_BYTES)
     (λ bytes t. judge-settles held (ReadsMachine bytes) (machine-some told bytes))
 
--- what the courses give is right
-pub source-right : ReadRight → (name : List ℕ) → Bounds refusal IsRight (source_course name)
-source-right right name =
-    then-bounds refusal (λ x. Unit {0}) IsRight (limited name 262144) (λ bytes. judge (ReadsSource bytes)) (limited-any name 262144)
-    (λ bytes t. judge-bounds refusal IsRight (ReadsSource bytes) (right bytes) (λ r h. source_refusal h.0 r h.2))
+-- what is so of all that texts read as is so of what the course gives
+pub source-keeps : (Q : RProgram → Type 0) → ((src : List ℕ) (r : RProgram) → Reads src r → Q r) → (name : List ℕ) → Bounds refusal Q (source_course name)
+source-keeps Q so name =
+    then-bounds refusal (λ x. Unit {0}) Q (limited name MOST_SOURCE_BYTES) (λ bytes. judge (ReadsSource bytes)) (limited-any name MOST_SOURCE_BYTES)
+    (λ bytes t. judge-bounds refusal Q (ReadsSource bytes) (so bytes) (λ r h. source_refusal h.0 r h.2))
 
 lawful_time : (least most : ℕ) → 1 ≤ least → least ≤ most → most ≤ 1000 → IsTime (interval least most)
 lawful_time least most a b c = record { low = a; order = b; high = c }
 
-abbrev pub Lawful : Machine → Type 0
-Lawful m = IsMachine m.processors m.times
-
-standard_lawful : Lawful standard
+standard_lawful : IsMachine standard
 standard_lawful =
     let one : IsTime (interval 1 1) = lawful_time 1 1 (omega arith) (omega arith) (omega arith) in
     let four : IsTime (interval 1 4) = lawful_time 1 4 (omega arith) (omega arith) (omega arith) in
@@ -127,15 +126,16 @@ standard_lawful =
     record {
       some = omega arith;
       few = omega arith;
+      quick = omega arith;
       count = refl;
       each = (one, (four, (two, (six, (four, (one, (of_mul, (of_div, (one, tt)))))))));
     }
 
 abbrev pub MachinesLawful : Type 0
-MachinesLawful = (bytes : List ℕ) (m : Machine) → machine_of bytes ≡ Ok m → IsMachine m.processors m.times
+MachinesLawful = (bytes : List ℕ) (m : Machine) → machine_of bytes ≡ Ok m → IsMachine m
 
-pub machine-lawful : MachinesLawful → (machine : MachineOf) → Bounds refusal Lawful (machine_course machine)
-machine-lawful lawful Default = give-bounds refusal Lawful standard standard_lawful
+pub machine-lawful : MachinesLawful → (machine : MachineOf) → Bounds refusal IsMachine (machine_course machine)
+machine-lawful lawful Default = give-bounds refusal IsMachine standard standard_lawful
 machine-lawful lawful (MachineFile name) =
-    then-bounds refusal (λ x. Unit {0}) Lawful (limited name 65536) (λ bytes. judge (ReadsMachine bytes)) (limited-any name 65536)
-    (λ bytes t. judge-bounds refusal Lawful (ReadsMachine bytes) (lawful bytes) (λ r h. machine_refusal h.0 r h.2))
+    then-bounds refusal (λ x. Unit {0}) IsMachine (limited name MOST_MACHINE_BYTES) (λ bytes. judge (ReadsMachine bytes)) (limited-any name MOST_MACHINE_BYTES)
+    (λ bytes t. judge-bounds refusal IsMachine (ReadsMachine bytes) (lawful bytes) (λ r h. machine_refusal h.0 r h.2))

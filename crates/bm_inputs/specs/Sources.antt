@@ -1,9 +1,10 @@
 -- The program of a source file.
 use Rattle.std.specs.Prelude.{ℕ, ◌≡◌, List, Result, Ok, Err, Some}
+use Rattle.bm_base.specs.declared.limits.TheConstants.{MOST_SOURCE_BYTES}
 use Rattle.src_names.specs.RProgram.{RProgram}
 use Rattle.src_front.specs.declared.fault.SourceFault.{SourceFault}
 use Rattle.src_front.specs.Reads.{Reads, FirstFault}
-use Rattle.bm_lines.specs.Source.{source_refused}
+use Rattle.bm_inputs.specs.SourceLines.{source_refused}
 use Rattle.bm_course.specs.Course.{Refused, Course, ◌>>=◌, judge}
 use Rattle.bm_course.specs.Limited.{limited}
 
@@ -14,5 +15,5 @@ ReadsSource bytes (Err r) = (fault : SourceFault) × FirstFault bytes fault × (
 
 abbrev pub source_course : List ℕ → Course RProgram
 source_course name = do
-  bytes ← limited name 262144
+  bytes ← limited name MOST_SOURCE_BYTES
   judge (ReadsSource bytes)

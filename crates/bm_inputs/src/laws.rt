@@ -6,6 +6,7 @@ ghost use Rattle.bm_io.specs.Files.{Held};
 ghost use Rattle.bm_words.specs.Table.{MachineOf};
 ghost use Rattle.src_names.specs.RProgram.{RProgram};
 ghost use Rattle.src_names.specs.Right.{IsRight};
+ghost use Rattle.src_names.specs.Sizes.{AllFewNodes};
 ghost use Rattle.bm_course.specs.Course.{Gives};
 ghost use Rattle.bm_course.specs.Laws.{IsDetermined, Settles};
 ghost use Rattle.bm_inputs.specs.Sources.{source_course};
@@ -33,11 +34,15 @@ pub fn inputs_settle()
     machine_files_mean_machines();
 }
 
-/// A program that the course of a source gives is right, and a machine that one of a machine gives
-/// is lawful.
+/// A program that the course of a source gives is right and has at most 120 nodes in each statement,
+/// and a machine that one of a machine gives is lawful.
 pub fn inputs_are_right()
-    ensures source { (name : List ℕ) (contents rest : List (List ℕ)) (p : RProgram) → source_course name contents (Gives p rest) → IsRight p }
-    ensures machine { (machine : MachineOf) (contents rest : List (List ℕ)) (m : Machine) → machine_course machine contents (Gives m rest) → IsMachine m.processors m.times }
+    ensures source { (name : List ℕ) (contents rest : List (List ℕ)) (p : RProgram) → source_course name contents (Gives p rest)
+        → IsRight p }
+    ensures nodes { (name : List ℕ) (contents rest : List (List ℕ)) (p : RProgram) → source_course name contents (Gives p rest)
+        → AllFewNodes p.body }
+    ensures machine { (machine : MachineOf) (contents rest : List (List ℕ)) (m : Machine)
+        → machine_course machine contents (Gives m rest) → IsMachine m }
 {
     programs_are_read_right();
     machine_files_mean_machines();

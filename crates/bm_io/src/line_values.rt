@@ -1,5 +1,6 @@
 // Values that are written as lines.
-ghost use Rattle.std.specs.Prelude.{◌≡◌, ℕ, Bool, false, Option, List};
+ghost use Rattle.std.specs.Prelude.{◌≡◌, ℕ, Bool, false};
+ghost use Rattle.bm_io.specs.Sink.{Taken};
 ghost use Rattle.bm_io.specs.LineValues.{value_line, with_line, LeavesPrefix};
 
 use crate::{Sink, SinkFault, Values};
@@ -7,7 +8,7 @@ use bm_base::Piece;
 
 /// Writes each value as one line, its decimal text and an LF, in one write.
 ///
-/// It holds the bytes of its sink, where those are told, and its faults are the sink's.
+/// It holds what its sink took, and its faults are the sink's.
 #[derive(Drop)]
 pub struct LineValues<'a, O: Sink> {
     out: &'a mut O,
@@ -34,7 +35,7 @@ fn line(value: i64) -> Piece
 }
 
 impl<O: Sink> Values for LineValues<'_, O> {
-    ghost Held = { Option (List ℕ) };
+    ghost Held = { Taken };
 
     ghost held = { λ v. O.taken v.out.now };
 

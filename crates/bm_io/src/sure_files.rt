@@ -3,7 +3,7 @@ ghost use Rattle.std.specs.Prelude.{◌≡◌, ◌≢◌, ◌+◌, ◌≤◌, So
 ghost use Rattle.std.specs.Option.{option_copied};
 ghost use Rattle.bm_io.specs.declared.files.FileFault.TheVariants.{Failed, Memory};
 ghost use Rattle.bm_io.specs.Causes.{HasCause};
-ghost use Rattle.bm_io.specs.Files.{Held, Reads, Asks, put};
+ghost use Rattle.bm_io.specs.Files.{Held, Reads, Keeps, Puts, Asks, put};
 
 use crate::shelf::{Shelf, first_bytes};
 use crate::{FileFault, Files};
@@ -59,7 +59,7 @@ impl Files for SureFiles {
     fn read(&mut self, alloc: Global, name: &str, most: usize) -> Result<Vec<u8>, FileFault>
         ensures content { IfOk result (λ bytes. Reads (Some (sure_held self.old)) name.now most bytes.items) }
         ensures short { IfOk result (λ bytes. length bytes.items ≤ most + 1) }
-        ensures held { Some (sure_held self.new) ≡ Some (sure_held self.old) }
+        ensures held { Keeps (Some (sure_held self.old)) (Some (sure_held self.new)) }
         ensures asked { Asks (Some (sure_asked self.old)) (Some (sure_asked self.new)) name.now result }
         ensures cause { HasCause Failed 0 0 result }
 
@@ -71,5 +71,19 @@ impl Files for SureFiles {
             None => Ok(Vec::new(alloc)),
             Some(bytes) => Ok(first_bytes(alloc, bytes, most)?),
         }
+    }
+
+    fn write(&mut self, name: &str, bytes: &[u8]) -> Result<(), FileFault>
+        ensures put { OnOk result (Puts (Some (sure_held self.old)) (Some (sure_held self.new)) name.now bytes.now) }
+        ensures kept { OnErr result (Keeps (Some (sure_held self.old)) (Some (sure_held self.new))) }
+        ensures asked { Asks (Some (sure_asked self.old)) (Some (sure_asked self.new)) name.now result }
+        ensures cause { HasCause Failed 0 0 result }
+
+        // It never fails.
+        ensures sure { result ≢ Err Failed }
+    {
+        self.shelf.note(name)?;
+        self.shelf.hold(name, bytes)?;
+        Ok(())
     }
 }

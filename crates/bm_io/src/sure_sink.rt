@@ -2,7 +2,7 @@
 ghost use Rattle.std.specs.Prelude.{◌≡◌, ◌≢◌, ◌+◌, ◌≤◌, Some, Err, [], ◌∷◌, List, ℕ, IsErrOf};
 ghost use Rattle.bm_io.specs.declared.sinks.SinkFault.TheVariants.{Failed, Memory};
 ghost use Rattle.bm_io.specs.Causes.{HasCause};
-ghost use Rattle.bm_io.specs.Sink.{Sent};
+ghost use Rattle.bm_io.specs.Sink.{tried, Sent};
 
 use crate::{Sink, SinkFault};
 use std::alloc::Global;
@@ -11,17 +11,20 @@ use std::alloc::Global;
 #[derive(Drop)]
 pub struct SureSink {
     bytes: Vec<u8>,
+    writes: u64,
 }
 
 impl SureSink {
-    ghost use Rattle.bm_io.specs.SureSink.{sure_bytes};
+    ghost use Rattle.bm_io.specs.SureSink.{sure_bytes, sure_writes};
 
     /// Took nothing so far. Takes no memory.
     pub fn new(alloc: Global) -> SureSink
-        ensures { sure_bytes result ≡ [] }
+        ensures bytes { sure_bytes result ≡ [] }
+        ensures writes { sure_writes result ≡ 0 }
     {
         SureSink {
             bytes: Vec::new(alloc),
+            writes: 0,
         }
     }
 
@@ -34,20 +37,21 @@ impl SureSink {
 }
 
 impl Sink for SureSink {
-    ghost use Rattle.bm_io.specs.SureSink.{sure_bytes};
+    ghost use Rattle.bm_io.specs.SureSink.{sure_taken};
 
-    ghost taken = { λ s. Some (sure_bytes s) };
+    ghost taken = { sure_taken };
 
     ghost faults = { λ _. 0 };
 
     fn write(&mut self, piece: &[u8]) -> Result<(), SinkFault>
-        ensures sent { Sent (Some (sure_bytes self.old)) (Some (sure_bytes self.new)) (piece.now ∷ []) result }
-        ensures memory { result ≡ Err Memory → Some (sure_bytes self.new) ≡ Some (sure_bytes self.old) }
+        ensures sent { Sent (sure_taken self.old) (sure_taken self.new) (piece.now ∷ []) result }
+        ensures memory { result ≡ Err Memory → sure_taken self.new ≡ tried (sure_taken self.old) }
         ensures cause { HasCause Failed 0 0 result }
 
         // It never fails.
         ensures sure { result ≢ Err Failed }
     {
+        self.writes = self.writes.saturating_add(1);
         self.bytes.extend_from_slice(piece)?;
         Ok(())
     }

@@ -56,12 +56,42 @@ fn memory_files_fail_where_planned_and_where_none_is_held(rt: HostRuntime) -> Re
     Ok(())
 }
 
+fn put<F: Files>(files: &mut F, name: &str, bytes: &[u8]) -> Result<(), FileFault> {
+    files.write(name, bytes)
+}
+
+#[test]
+fn a_planned_write_leaves_what_is_held(rt: HostRuntime) -> Result<(), Fail> {
+    let mut files = MemFiles::new(rt.alloc());
+    files.hold("a", b"old")?;
+    files.fail(2)?;
+    assert_eq!(rt; put(&mut files, "b", b"new"), Ok(()));
+    assert_eq!(rt; put(&mut files, "a", b"new"), Err(FileFault::Failed));
+    assert_eq!(rt; files.held("a"), Some(b"old".as_slice()));
+    Ok(())
+}
+
+#[test]
+fn a_file_of_no_bytes_is_held(rt: HostRuntime) -> Result<(), Fail> {
+    let mut files = MemFiles::new(rt.alloc());
+    files.hold("a", b"old")?;
+    assert_eq!(rt; put(&mut files, "a", b""), Ok(()));
+    assert_eq!(rt; files.held("a"), Some(b"".as_slice()));
+    Ok(())
+}
+
 #[test]
 fn sure_files_read_a_missing_name_as_empty(rt: HostRuntime) -> Result<(), Fail> {
     let alloc = rt.alloc();
     let mut files = SureFiles::new(alloc);
     files.hold("a", b"hello")?;
-    for (name, most, want) in [("a", 10, "hello"), ("c", 10, ""), ("a", 0, "h")] {
+    assert_eq!(rt; put(&mut files, "d", b"new"), Ok(()));
+    for (name, most, want) in [
+        ("a", 10, "hello"),
+        ("c", 10, ""),
+        ("a", 0, "h"),
+        ("d", 9, "new"),
+    ] {
         let answer = read_of(&mut files, alloc, name, most);
         assert_eq!(rt;
             shown(alloc, answer)?.as_str(),
@@ -94,6 +124,7 @@ fn a_memory_sink_refuses_what_was_named_first(rt: HostRuntime) -> Result<(), Fai
         assert_eq!(rt; write_to(&mut sink, piece.as_bytes()), answer, "{piece}");
         assert_eq!(rt; sink.taken(), taken.as_bytes(), "{piece}");
     }
+    assert_eq!(rt; sink.writes(), 6);
     Ok(())
 }
 
@@ -122,6 +153,28 @@ fn real_files_are_read_up_to_the_limit(rt: HostRuntime) -> Result<(), Fail> {
         let answer = read_of(&mut files, alloc, name, most).map(|bytes| bytes.len());
         assert_eq!(rt; answer, want, "{name} at most {most}");
     }
+    Ok(())
+}
+
+#[test]
+fn a_real_file_is_replaced_and_a_device_is_not(rt: HostRuntime) -> Result<(), Fail> {
+    let alloc = rt.alloc();
+    let mut files = RealFiles::new(&rt);
+    let name = "bm_io_written";
+    for text in ["first", "second, longer", ""] {
+        assert_eq!(rt; put(&mut files, name, text.as_bytes()), Ok(()));
+        let answer = read_of(&mut files, alloc, name, 99);
+        assert_eq!(rt; shown(alloc, answer)?.as_str(), text);
+    }
+    assert_eq!(rt; put(&mut files, "/dev/null", b"gone"), Ok(()));
+    for name in ["/dev/full", "/", "no such folder/file"] {
+        assert_eq!(rt;
+            put(&mut files, name, b"bytes"),
+            Err(FileFault::Failed),
+            "{name}"
+        );
+    }
+    assert!(rt; std::fs::remove_file(&rt, name).is_ok());
     Ok(())
 }
 

@@ -1,21 +1,30 @@
--- What each call of `next` does: its event is the next action of the canonical run, or the next two.
+-- What each call of `next` does: it takes the next actions of the canonical run, which end with the one that gives the event.
 --
 -- The counts of what each processor has started stand for the run so far, of which the canonical run asks nothing else.
-use Rattle.std.specs.Prelude.{◌≡◌, ℕ, ◌+◌, ◌-◌, ◌*◌, ◌⊎◌, Bool, true, false, List, [], ◌∷◌, get_or, set, drop, take, Option, Some, None, slice_get, if◌then◌else◌, count_by, not, ℤ}
-use Rattle.tuple_ir.specs.declared.tuple.Tuple.{Tuple}
-use Rattle.tuple_ir.specs.declared.tuple.Tuple.TheVariants.{Print}
+use Rattle.std.specs.Prelude.{◌≡◌, ℕ, ◌+◌, ◌-◌, ◌*◌, ◌<◌, ◌⊎◌, Bool, true, false, List, [], ◌∷◌, get_or, set, drop, replicate, Option}
+use Rattle.std.specs.Prelude.{Some, None, count_by, not, ℤ}
+use Rattle.bm_base.specs.Memory.{Content}
+use Rattle.bm_base.specs.Memories.{IsMemoryOf}
 use Rattle.tuple_ir.specs.declared.event.Event.{Event}
 use Rattle.tuple_ir.specs.declared.event.Event.TheVariants.{Started, Finished, Printed, Fired, Entered, Ended as Over, Reached}
+use Rattle.tuple_ir.specs.Conflict.{Conflict}
 use Rattle.line_model.specs.declared.line.StreamItem.{StreamItem}
 use Rattle.line_model.specs.declared.line.StreamItem.TheVariants.{Do, Wait}
-use Rattle.line_model.specs.Streams.{stream, masks}
-use Rattle.unit_law.specs.State.{Code, Program, Mode, In, Entering, Ended, State, Busy, code_at, processor, is_free, next_item}
+use Rattle.line_model.specs.Streams.{stream}
+use Rattle.unit_law.specs.State.{Code, Program, Mode, In, Entering, Ended, State, Work, Idle, Busy, Held, code_at, processor}
 use Rattle.unit_law.specs.Units.{Choice}
-use Rattle.unit_law.specs.Steps.{Action, Finish, Fire, Start, Branch, Advance, Enter, May, after, tuple_at}
+use Rattle.unit_law.specs.Steps.{Action, Finish, Fire, Start, Branch, Advance, Enter, May, after, IsRun, state_after}
 use Rattle.unit_law.specs.Canonical.{Durations, next_to}
 use Rattle.unit_law.specs.Determinate.{sum_below}
-use Rattle.bm_machine.specs.Work.{arity, value_of}
-use Rattle.bm_machine.specs.Shown.{HasCounts}
+use Rattle.unit_law.specs.Execution.{HasFinished}
+use Rattle.bm_machine.specs.Shown.{Shown, HasCounts}
+use Rattle.unit_law.specs.Events.{event_of}
+
+-- the machine is of the same program, on the same choice, with the same timing
+pub record Stays {U T : Type 0} (chosen : U → Choice) (before now : Shown U T) : Type 0 where
+  pub program : now.program ≡ before.program
+  pub choice : chosen now.unit ≡ chosen before.unit
+  pub timing : now.timing ≡ before.timing
 
 -- the action may be taken, and where a run has these counts and is in this state, the canonical run takes it next
 pub record IsNextAction (choice : Choice) (durations : Durations) (m : Program) (counts : List ℕ) (s : State) (a : Action) : Type 0 where
@@ -34,42 +43,21 @@ counts_after counts Enter = counts
 -- these actions, the first first, are the next ones of the canonical run, and lead to this state and these counts
 abbrev pub Takes : Choice → Durations → Program → List ℕ → State → List Action → List ℕ → State → Type 0
 Takes choice durations m counts s [] counts' s' = (counts' ≡ counts) × (s' ≡ s)
-Takes choice durations m counts s (a ∷ actions) counts' s' = IsNextAction choice durations m counts s a × Takes choice durations m (counts_after counts a) (after m s a) actions counts' s'
+Takes choice durations m counts s (a ∷ actions) counts' s' = IsNextAction choice durations m counts s a
+    × Takes choice durations m (counts_after counts a) (after m s a) actions counts' s'
 
--- the event stands for these actions: a Finish with the Advance before it where one is needed, a Branch with the Enter behind it;
--- the end comes with the Branch that ends the run, and again later
-abbrev pub StandsFor : Event → List Action → Type 0
-StandsFor (Started at p t d) actions = actions ≡ Start p d ∷ []
-StandsFor (Finished at p t v) actions = (actions ≡ Finish p ∷ []) ⊎ (actions ≡ Advance ∷ Finish p ∷ [])
-StandsFor (Printed at p t v) actions = (actions ≡ Finish p ∷ []) ⊎ (actions ≡ Advance ∷ Finish p ∷ [])
-StandsFor (Fired at j mask) actions = actions ≡ Fire j ∷ []
-StandsFor (Entered at b) actions = actions ≡ Branch ∷ Enter ∷ []
-StandsFor (Over at) actions = (actions ≡ Branch ∷ []) ⊎ (actions ≡ [])
-StandsFor Reached actions = actions ≡ []
+-- of these actions the last one gives the event, and no other gives any
+abbrev pub EndsWith : Program → State → List Action → Event → Type 0
+EndsWith m s [] event = ⊥
+EndsWith m s (a ∷ []) event = event_of m s a ≡ Some event
+EndsWith m s (a ∷ b ∷ actions) event = (event_of m s a ≡ None) × EndsWith m (after m s a) (b ∷ actions) event
 
--- whether a tuple is a print
-abbrev pub is_print : Tuple → Bool
-is_print (Print v) = true
-is_print _ = false
-
--- processor p works on tuple number t, a print or none, and this is the value that it gives, writes or prints
-pub record Gives (code : Code) (s : State) (p t : ℕ) (value : ℤ) (print : Bool) : Type 0 where
-  pub tuple : Tuple
-  pub is_tuple : tuple_at code t ≡ Some tuple
-  pub until : ℕ
-  pub first : ℤ
-  pub second : ℤ
-  pub works : (processor s p).work ≡ Busy until t (take (arity tuple) (first ∷ second ∷ []))
-  pub value_is : value ≡ value_of tuple first second
-  pub prints : is_print tuple ≡ print
-
--- what an event tells of the block's code and the state before it
-abbrev pub tells : Code → State → Event → Type 0
-tells code s (Started at p t d) = next_item code s p ≡ Some (Do t)
-tells code s (Finished at p t v) = Gives code s p t v false
-tells code s (Printed at p t v) = Gives code s p t v true
-tells code s (Fired at j mask) = slice_get (masks code.line) j ≡ Some mask
-tells code s _ = Unit {0}
+-- the actions of a call that answers this event: they end with it; once the run has ended its end is told again, with none; and
+-- where the tick is reached they are Advances
+abbrev pub StandsFor : Program → State → Event → List Action → Type 0
+StandsFor m s Reached actions = (n : ℕ) × (actions ≡ replicate n Advance)
+StandsFor m s (Over at) actions = EndsWith m s actions (Over at) ⊎ ((s.mode ≡ Ended) × (at ≡ s.clock) × (actions ≡ []))
+StandsFor m s event actions = EndsWith m s actions event
 
 -- an event's tick is the clock of the state after it; the block that is entered is that of this state, and at the end the run has ended
 abbrev pub is_at : Event → State → Type 0
@@ -92,15 +80,24 @@ clock_then (In b) clock = clock
 clock_then (Entering b) clock = clock + 1
 clock_then Ended clock = clock
 
--- the clock of the event whose first action is this one, if any is left
+-- no event's clock is before this one, where its next action, if any is left, is this one
 abbrev pub event_clock : Program → State → Option Action → ℕ
 event_clock m s None = s.clock
 event_clock m s (Some a) = clock_then (after m s a).mode (after m s a).clock
 
--- the run has ended, or this action ends it
-abbrev pub is_last : Program → State → Option Action → Type 0
-is_last m s None = s.mode ≡ Ended
-is_last m s (Some a) = (after m s a).mode ≡ Ended
+-- where a run has these counts and is in this state, its next event is past this clock: so is already its next action, with the
+-- Enter behind a Branch
+abbrev pub IsPast : Choice → Durations → Program → List ℕ → State → ℕ → Type 0
+IsPast choice durations m counts s until = (past : List Action) → HasCounts counts past
+    → until < event_clock m s (next_to choice durations m s.mode past s)
+
+-- where tuple t starts, each tuple that conflicts with t and stands before it has finished in this execution of the block, by
+-- every run from a memory of the names that leads to this state, in which the event comes next
+abbrev pub ProducersHaveFinished : Program → State → Event → Type 0
+ProducersHaveFinished m s (Started at p t d) = (memory : List Content) (past : List Action) → IsMemoryOf m.names memory
+    → IsRun m memory past → state_after m memory past ≡ s → (b a : ℕ) → s.mode ≡ In b → Conflict (code_at m b).tuples a t
+    → HasFinished m memory past a
+ProducersHaveFinished m s _ = Unit {0}
 
 -- whether the run goes on by this event
 abbrev pub goes_on : Event → Bool
@@ -113,9 +110,15 @@ abbrev pub is_run : StreamItem → Bool
 is_run (Do t) = true
 is_run Wait = false
 
+-- a tuple that is worked on has its Finish left
+abbrev pub busy_one : Work → ℕ
+busy_one Idle = 0
+busy_one (Busy until t operands) = 1
+busy_one (Held until) = 0
+
 -- the Starts and Finishes that processor p has left in the block
 abbrev pub left_of : Code → State → ℕ → ℕ
-left_of code s p = 2 * count_by is_run (drop (processor s p).place (stream p code.line)) + (if is_free s.clock (processor s p).work then 0 else 1)
+left_of code s p = 2 * count_by is_run (drop (processor s p).place (stream p code.line)) + busy_one (processor s p).work
 
 -- the Starts, Finishes and Fires that are left in the block
 abbrev pub left_in : Program → State → Mode → ℕ

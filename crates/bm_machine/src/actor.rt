@@ -2,7 +2,7 @@
 
 /// What a processor does.
 #[derive(Clone, Copy)]
-pub enum Task {
+pub(crate) enum Task {
     /// Nothing.
     Rest,
     /// A tuple, until a tick, with the `count` operands that it read.
@@ -13,18 +13,22 @@ pub enum Task {
         first: i64,
         second: i64,
     },
+    /// Nothing until a tick, since a mask has fired that it is a member of.
+    Stays {
+        until: u64,
+    },
 }
 
 /// How many items of its stream a processor has taken up, and what it does.
 #[derive(Clone, Copy)]
-pub struct Actor {
+pub(crate) struct Actor {
     pub place: usize,
     pub task: Task,
 }
 
 /// Where a machine is.
 #[derive(Clone, Copy)]
-pub enum Stage {
+pub(crate) enum Stage {
     /// Within a block.
     Inside { block: u32 },
     /// At the run's end.

@@ -1,34 +1,27 @@
-// The unit is told who waits.
-ghost use Rattle.std.specs.Prelude.{◌≡◌, ◌<◌, ◌≤◌, ◌&&◌, ◌||◌, ◌==◌, ℕ, true, IsTrue, Some, length, slice_get, map, if◌then◌else◌};
+// Who waits and who can start: the unit is told who waits.
+ghost use Rattle.std.specs.Prelude.{◌≡◌, ◌<◌, ◌≤◌, ◌&&◌, ◌||◌, ◌==◌, ℕ, true, false};
+ghost use Rattle.std.specs.Prelude.{IsTrue, Some, None, Option, length, slice_get, map, if◌then◌else◌, nat_lt};
 ghost use Rattle.bm_base.specs.Mask.{has_bit};
 ghost use Rattle.unit_law.specs.State.{is_free, is_wait, waits, code_at};
 ghost use Rattle.unit_law.specs.Units.{has_unfired};
+ghost use Rattle.unit_law.specs.Canonical.{is_do};
 ghost use Rattle.unit_law.specs.Steps.{passed, resumed};
-ghost use Rattle.bm_machine.specs.Shown.{work_of, processor_of, standing};
+ghost use Rattle.bm_machine.specs.Agenda.{due_at, hold_until};
+ghost use Rattle.bm_machine.specs.Shown.{work_of, processor_of, standing_at, starts_next, dues_of};
 ghost use Rattle.bm_machine.specs.declared.actor.Actor.{Actor};
+ghost use Rattle.bm_machine.specs.declared.agenda.Due.{Due};
 
-use crate::Core;
 use crate::actor::{Actor, Task};
+use crate::agenda::{Agenda, Due};
+use crate::search::{is_waiting, may_start};
 use bm_base::Mask;
 use line_model::StreamItem;
+use stream_image::Image;
 use unit_law::BarrierUnit;
-
-/// Whether a processor is idle before a wait of its stream.
-fn is_waiting(stream: &[StreamItem], actor: &Actor) -> bool
-    ensures { result ≡ (is_free 0 (work_of actor.now.task) && is_wait (slice_get stream.now actor.now.place)) }
-{
-    match actor.task {
-        Task::Rest => match stream.get(actor.place) {
-            Some(StreamItem::Wait) => true,
-            _ => false,
-        },
-        Task::Runs { .. } => false,
-    }
-}
 
 /// Tells the unit that p waits, where it does and the unit has not been told.
 fn arrive_if<U: BarrierUnit>(unit: &mut U, told: &mut Mask, p: u8, waits: bool)
-    requires one { p < 64 }
+    requires one { p < 128 }
     requires told { U.waiting unit.old ≡ told.old }
     requires unfired { IsTrue waits → has_unfired (U.queue unit.old) (U.fired unit.old) p ≡ true }
     ensures told { U.waiting unit.new ≡ told.new }
@@ -44,58 +37,216 @@ fn arrive_if<U: BarrierUnit>(unit: &mut U, told: &mut Mask, p: u8, waits: bool)
     }
 }
 
-/// Tells the unit of each processor that waits and of which it has not been told.
-pub(crate) fn tell<U: BarrierUnit>(
+/// Adds p, where it can start a tuple.
+fn add_if(able: &mut Mask, p: u8, starts: bool)
+    requires { p < 128 }
+    ensures { (q : ℕ) → has_bit able.new q ≡ (has_bit able.old q || (starts && q == p)) }
+{
+    if starts {
+        able.insert(p);
+    }
+}
+
+/// Sees whether p waits or can start a tuple.
+pub(crate) fn see<U: BarrierUnit>(
     unit: &mut U,
     told: &mut Mask,
-    core: &Core,
-    block: u32,
-    actors: &[Actor],
+    able: &mut Mask,
+    stream: &[StreamItem],
+    p: u8,
+    actor: &Actor,
+    clock: u64,
 )
-    requires block { block < length core.now.blocks }
-    requires long { length actors.now ≡ core.now.machine.processors }
+    requires one { p < 128 }
     requires told { U.waiting unit.old ≡ told.old }
-    requires waits { (p : ℕ) → has_bit told.old p ≡ true → waits (code_at core.now block) (standing actors.now) p ≡ true }
-    requires unfired { (p : ℕ) → waits (code_at core.now block) (standing actors.now) p ≡ true → has_unfired (U.queue unit.old) (U.fired unit.old) p ≡ true }
+    requires unfired { (is_free clock (work_of actor.now.task) && is_wait (slice_get stream.now actor.now.place)) ≡ true
+        → has_unfired (U.queue unit.old) (U.fired unit.old) p ≡ true }
     ensures told { U.waiting unit.new ≡ told.new }
-    ensures bits { (p : ℕ) → has_bit told.new p ≡ waits (code_at core.now block) (standing actors.now) p }
+    ensures bits { (q : ℕ) → has_bit told.new q
+        ≡ (has_bit told.old q || ((is_free clock (work_of actor.now.task) && is_wait (slice_get stream.now actor.now.place)) && q == p)) }
+    ensures able { (q : ℕ) → has_bit able.new q
+        ≡ (has_bit able.old q || ((is_free clock (work_of actor.now.task) && is_do (slice_get stream.now actor.now.place)) && q == p)) }
     ensures masks { U.queue unit.new ≡ U.queue unit.old }
     ensures fired { U.fired unit.new ≡ U.fired unit.old }
     ensures capacity { U.capacity unit.new ≡ U.capacity unit.old }
     ensures choice { U.choice unit.new ≡ U.choice unit.old }
 {
-    for p in 0..core.spec().processors() {
-        arrive_if(
+    arrive_if(unit, told, p, is_waiting(stream, actor, clock));
+    add_if(able, p, may_start(stream, actor, clock));
+}
+
+/// Sees of each processor whether it waits or can start a tuple.
+pub(crate) fn see_all<U: BarrierUnit>(
+    unit: &mut U,
+    told: &mut Mask,
+    able: &mut Mask,
+    image: &Image,
+    block: u32,
+    actors: &[Actor],
+    clock: u64,
+)
+    requires block { block < length image.now.blocks }
+    requires long { length actors.now ≡ image.now.machine.processors }
+    requires told { U.waiting unit.old ≡ told.old }
+    requires waits { (p : ℕ) → has_bit told.old p ≡ true → waits (code_at image.now block) (standing_at clock actors.now) p ≡ true }
+    requires starts { (p : ℕ) → has_bit able.old p ≡ true → starts_next (code_at image.now block) (standing_at clock actors.now) p ≡ true }
+    requires unfired { (p : ℕ) → waits (code_at image.now block) (standing_at clock actors.now) p ≡ true
+        → has_unfired (U.queue unit.old) (U.fired unit.old) p ≡ true }
+    ensures told { U.waiting unit.new ≡ told.new }
+    ensures bits { (p : ℕ) → has_bit told.new p ≡ waits (code_at image.now block) (standing_at clock actors.now) p }
+    ensures able { (p : ℕ) → has_bit able.new p ≡ starts_next (code_at image.now block) (standing_at clock actors.now) p }
+    ensures masks { U.queue unit.new ≡ U.queue unit.old }
+    ensures fired { U.fired unit.new ≡ U.fired unit.old }
+    ensures capacity { U.capacity unit.new ≡ U.capacity unit.old }
+    ensures choice { U.choice unit.new ≡ U.choice unit.old }
+{
+    for p in 0..image.spec().processors() {
+        see(
             unit,
             told,
+            able,
+            image.stream(block, p),
             p,
-            is_waiting(core.stream(block, p), &actors[p as usize]),
+            &actors[p as usize],
+            clock,
+        );
+    }
+}
+
+/// Sees of each member of the mask whether it waits or can start a tuple. Of all others it is known.
+pub(crate) fn see_members<U: BarrierUnit>(
+    unit: &mut U,
+    told: &mut Mask,
+    able: &mut Mask,
+    image: &Image,
+    block: u32,
+    actors: &[Actor],
+    clock: u64,
+    mask: Mask,
+)
+    requires block { block < length image.now.blocks }
+    requires long { length actors.now ≡ image.now.machine.processors }
+    requires members { (p : ℕ) → has_bit mask p ≡ true → p < image.now.machine.processors }
+    requires told { U.waiting unit.old ≡ told.old }
+    requires waits { (p : ℕ) → has_bit told.old p ≡ true → waits (code_at image.now block) (standing_at clock actors.now) p ≡ true }
+    requires starts { (p : ℕ) → has_bit able.old p ≡ true → starts_next (code_at image.now block) (standing_at clock actors.now) p ≡ true }
+    requires known { (p : ℕ) → has_bit mask p ≡ false
+        → has_bit told.old p ≡ waits (code_at image.now block) (standing_at clock actors.now) p }
+    requires known_starts { (p : ℕ) → has_bit mask p ≡ false
+        → has_bit able.old p ≡ starts_next (code_at image.now block) (standing_at clock actors.now) p }
+    requires unfired { (p : ℕ) → waits (code_at image.now block) (standing_at clock actors.now) p ≡ true
+        → has_unfired (U.queue unit.old) (U.fired unit.old) p ≡ true }
+    ensures told { U.waiting unit.new ≡ told.new }
+    ensures bits { (p : ℕ) → has_bit told.new p ≡ waits (code_at image.now block) (standing_at clock actors.now) p }
+    ensures able { (p : ℕ) → has_bit able.new p ≡ starts_next (code_at image.now block) (standing_at clock actors.now) p }
+    ensures masks { U.queue unit.new ≡ U.queue unit.old }
+    ensures fired { U.fired unit.new ≡ U.fired unit.old }
+    ensures capacity { U.capacity unit.new ≡ U.capacity unit.old }
+    ensures choice { U.choice unit.new ≡ U.choice unit.old }
+{
+    for p in 0..image.spec().processors() {
+        if !mask.has(p) {
+            continue;
+        }
+        see(
+            unit,
+            told,
+            able,
+            image.stream(block, p),
+            p,
+            &actors[p as usize],
+            clock,
+        );
+    }
+}
+
+/// Takes the holds that end at this tick out of the agenda, and sees whether their processors then
+/// wait or can start a tuple. Nothing ends before this tick.
+pub(crate) fn release<U: BarrierUnit>(
+    unit: &mut U,
+    told: &mut Mask,
+    able: &mut Mask,
+    agenda: &mut Agenda,
+    image: &Image,
+    block: u32,
+    actors: &[Actor],
+    clock: u64,
+    tick: u64,
+)
+    requires block { block < length image.now.blocks }
+    requires long { length actors.now ≡ image.now.machine.processors }
+    requires few { image.now.machine.processors ≤ 128 }
+    requires later { clock ≤ tick }
+    requires agenda { agenda.old ≡ dues_of clock (map processor_of actors.now) }
+    requires least { (p : ℕ) (due : Due) → due_at agenda.old p ≡ Some due → tick ≤ due.tick }
+    requires told { U.waiting unit.old ≡ told.old }
+    requires waits { (p : ℕ) → has_bit told.old p ≡ waits (code_at image.now block) (standing_at clock actors.now) p }
+    requires starts { (p : ℕ) → has_bit able.old p ≡ starts_next (code_at image.now block) (standing_at clock actors.now) p }
+    requires unfired { (p : ℕ) → waits (code_at image.now block) (standing_at tick actors.now) p ≡ true
+        → has_unfired (U.queue unit.old) (U.fired unit.old) p ≡ true }
+    ensures agenda { agenda.new ≡ dues_of tick (map processor_of actors.now) }
+    ensures told { U.waiting unit.new ≡ told.new }
+    ensures bits { (p : ℕ) → has_bit told.new p ≡ waits (code_at image.now block) (standing_at tick actors.now) p }
+    ensures able { (p : ℕ) → has_bit able.new p ≡ starts_next (code_at image.now block) (standing_at tick actors.now) p }
+    ensures masks { U.queue unit.new ≡ U.queue unit.old }
+    ensures fired { U.fired unit.new ≡ U.fired unit.old }
+    ensures capacity { U.capacity unit.new ≡ U.capacity unit.old }
+    ensures choice { U.choice unit.new ≡ U.choice unit.old }
+{
+    while let Some(p) = agenda.pop_hold(tick) {
+        see(
+            unit,
+            told,
+            able,
+            image.stream(block, p),
+            p,
+            &actors[p as usize],
+            tick,
         );
     }
 }
 
 /// A processor after a mask has fired, of which it is a member or not.
-fn after_fire(actor: Actor, is_member: bool) -> Actor
+fn after_fire(actor: Actor, is_member: bool, until: u64) -> Actor
     requires { IsTrue is_member → actor.place < 18446744073709551615 }
-    ensures { processor_of result ≡ (if is_member then resumed (processor_of actor) else processor_of actor) }
+    ensures { processor_of result ≡ (if is_member then resumed until (processor_of actor) else processor_of actor) }
 {
     if is_member {
         Actor {
             place: actor.place + 1,
-            task: Task::Rest,
+            task: Task::Stays { until },
         }
     } else {
         actor
     }
 }
 
-/// The members of the mask pass their waits.
-pub(crate) fn pass(actors: &mut [Actor], mask: Mask)
-    requires few { length actors.old ≤ 64 }
+/// The members of the mask pass their waits, and are held until this tick.
+pub(crate) fn pass(actors: &mut [Actor], mask: Mask, until: u64)
+    requires few { length actors.old ≤ 128 }
     requires short { (p : ℕ) (a : Actor) → slice_get actors.old p ≡ Some a → has_bit mask p ≡ true → a.place < 18446744073709551615 }
-    ensures { map processor_of actors.new ≡ passed mask 0 (map processor_of actors.old) }
+    ensures { map processor_of actors.new ≡ passed until mask 0 (map processor_of actors.old) }
 {
     for p in 0..actors.len() {
-        actors[p] = after_fire(actors[p], mask.has(p as u8));
+        actors[p] = after_fire(actors[p], mask.has(p as u8), until);
+    }
+}
+
+/// Puts the holds of the members of the mask into the agenda, where they end past the clock.
+pub(crate) fn hold(agenda: &mut Agenda, processors: u8, mask: Mask, clock: u64, until: u64)
+    requires processors { length agenda.old ≡ processors }
+    requires new { (p : ℕ) → has_bit mask p ≡ true → due_at agenda.old p ≡ None }
+    ensures long { length agenda.new ≡ length agenda.old }
+    ensures held { (p : ℕ) → p < length agenda.old → has_bit mask p ≡ true
+        → due_at agenda.new p ≡ (if nat_lt clock until then Some (hold_until until) else None) }
+    ensures other { (p : ℕ) → has_bit mask p ≡ false → due_at agenda.new p ≡ due_at agenda.old p }
+{
+    if until <= clock {
+        return;
+    }
+    for p in 0..processors {
+        if mask.has(p) {
+            agenda.insert(p, Due::hold(until));
+        }
     }
 }

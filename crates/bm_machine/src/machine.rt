@@ -1,36 +1,39 @@
-// A machine that runs a core, event by event.
-ghost use Rattle.std.specs.Prelude.{◌≡◌, ◌+◌, ◌<◌, ◌≤◌, ◌↔◌, ◌++◌, IfOk, IfSome, IfNone, IsSome, Some, None, true, List, ℕ, length, replicate};
-ghost use Rattle.tuple_ir.specs.Memories.{IsMemoryOf};
+// A machine that runs an image, event by event.
+ghost use Rattle.std.specs.Prelude.{◌≡◌, ◌+◌, ◌<◌, ◌≤◌, ◌++◌, IfOk, IfSome, IfNone, Some, None, true, List, ℕ, length, get_or, replicate};
+ghost use Rattle.bm_base.specs.Memories.{IsMemoryOf};
 ghost use Rattle.tuple_ir.specs.declared.event.Event.TheVariants.{Entered, Ended as Over, Reached};
 ghost use Rattle.line_model.specs.Streams.{masks};
-ghost use Rattle.unit_law.specs.State.{In, Entering, Ended, code_at, start, processor, is_due};
+ghost use Rattle.unit_law.specs.State.{In, Entering, Ended, code_at, start, processor, is_due, waiting_mask};
 ghost use Rattle.unit_law.specs.Units.{first_from};
-ghost use Rattle.unit_law.specs.Steps.{Action, Advance, Branch, Enter, May, NoneDue, NoneStarts, after, least_tick, target};
-ghost use Rattle.unit_law.specs.OnUnit.{answer_at, answers_lawfully};
-ghost use Rattle.unit_law.specs.Canonical.{can_start, due_finish, block_branch, next_to};
-ghost use Rattle.bm_machine.specs.Shown.{HasKinds, HasCounts};
-ghost use Rattle.bm_machine.specs.Next.{Takes, StandsFor, tells, is_at, printed_by, event_clock, is_last, goes_on, left_in, still};
-ghost use Rattle.bm_machine.specs.Moves.{Stands, Starts, Finishes, fires, branches, Answers};
+ghost use Rattle.unit_law.specs.Steps.{Action, Finish, Advance, Branch, Enter, May, NoneDue, after, least_tick, target};
+ghost use Rattle.unit_law.specs.Canonical.{can_start, block_branch};
+ghost use Rattle.bm_machine.specs.Shown.{IsReached};
+ghost use Rattle.bm_machine.specs.Next.{Stays, Takes, StandsFor, is_at, printed_by, IsPast, goes_on, left_in, still, ProducersHaveFinished};
+ghost use Rattle.bm_machine.specs.Moves.{Stands, Does, Starts, fires, IsIdle, acts, branches, Answers};
 
 use crate::actor::{Actor, Stage, Task};
-use crate::arrive::{pass, tell};
-use crate::search::{least_busy_tick, lowest_due, lowest_start};
+use crate::agenda::{Agenda, Due};
+use crate::arrive::{hold, pass, release, see, see_all, see_members};
+use crate::history::History;
+use crate::laws::image_laws;
+use crate::search::{lowest, without_one};
 use crate::work::{cell, finish_event, print, put, read, value};
-use crate::{Core, History};
-use bm_base::{Mask, Store};
+use bm_base::{MOST_BUDGET, Mask, Store};
 use line_model::StreamItem;
 use std::alloc::{AllocError, Global};
 use std::marker::Model;
-use timing_script::Timing;
+use stream_image::Image;
+use timing_law::Timing;
 use tuple_ir::{Event, Next, Tuple, class};
 use unit_law::{
-    BarrierUnit, canonical_runs_are_runs, choices_are_lawful, waiting_processors_have_masks,
+    BarrierUnit, canonical_runs_are_runs, choices_are_lawful, runs_keep_memories,
+    waiting_processors_have_masks,
 };
 
-/// A run of a core on a barrier unit with a timing.
+/// A run of an image on a barrier unit with a timing.
 #[derive(Drop)]
 pub struct Machine<'a, U: BarrierUnit, T: Timing> {
-    core: &'a Core,
+    image: &'a Image,
     unit: U,
     timing: T,
     clock: u64,
@@ -38,6 +41,8 @@ pub struct Machine<'a, U: BarrierUnit, T: Timing> {
     actors: Vec<Actor>,
     counts: Vec<u64>,
     told: Mask,
+    able: Mask,
+    agenda: Agenda,
     cells: Vec<i64>,
     store: Store,
     output: History<i64>,
@@ -45,35 +50,57 @@ pub struct Machine<'a, U: BarrierUnit, T: Timing> {
 
 impl<'a, U: BarrierUnit, T: Timing> Model for Machine<'a, U, T> {
     ghost use Rattle.std.specs.Prelude.{map};
-    ghost use Rattle.bm_machine.specs.Shown.{Shown, processor_of, mode_of, IsKept};
+    ghost use Rattle.bm_machine.specs.Shown.{Shown, processor_of, mode_of, IsRunning};
 
     ghost Value = { Shown U T };
 
-    ghost view = { λ m. record { program = m.core.now; state = record { clock = m.clock; mode = mode_of m.stage; processors = map processor_of m.actors.items; fired = U.fired m.unit; world = record { cells = m.cells.items; memory = m.store; output = m.output.items } }; counts = m.counts.items; unit = m.unit; timing = m.timing } };
+    ghost view = { λ m. record {
+      program = m.image.now;
+      state = record {
+        clock = m.clock;
+        mode = mode_of m.stage;
+        processors = map processor_of m.actors.items;
+        fired = U.fired m.unit;
+        world = record { cells = m.cells.items; memory = m.store; output = m.output.items };
+      };
+      counts = m.counts.items;
+      unit = m.unit;
+      timing = m.timing;
+    } };
 
-    ghost invariant = { λ m. IsKept m.core.now (record { clock = m.clock; mode = mode_of m.stage; processors = map processor_of m.actors.items; fired = U.fired m.unit; world = record { cells = m.cells.items; memory = m.store; output = m.output.items } }) m.counts.items m.told (U.capacity m.unit) (U.queue m.unit) (U.waiting m.unit) };
+    ghost invariant = { λ m. IsRunning m.image.now (record {
+      clock = m.clock;
+      mode = mode_of m.stage;
+      processors = map processor_of m.actors.items;
+      fired = U.fired m.unit;
+      world = record {
+        cells = m.cells.items;
+        memory = m.store;
+        output = m.output.items;
+      };
+    }) m.counts.items m.told (U.capacity m.unit) (U.queue m.unit) (U.waiting m.unit) m.able m.agenda };
 }
 
 impl<'a, U: BarrierUnit, T: Timing> Machine<'a, U, T> {
-    /// A machine before the first event of the run of this core from this memory. It takes all the
+    /// A machine before the first event of the run of this image from this memory. It takes all the
     /// memory that the run will need.
     pub fn new(
         alloc: Global,
-        core: &'a Core,
+        image: &'a Image,
         store: Store,
         unit: U,
         timing: T,
     ) -> Result<Machine<'a, U, T>, AllocError>
-        requires memory { IsMemoryOf core.now.names store }
-        requires room { (b : ℕ) → length (masks (code_at core.now b).line) ≤ U.capacity unit }
-        ensures program { IfOk result (λ machine. machine.program ≡ core.now) }
-        ensures state { IfOk result (λ machine. machine.state ≡ start core.now store) }
-        ensures counts { IfOk result (λ machine. machine.counts ≡ replicate core.now.machine.processors 0) }
+        requires memory { IsMemoryOf image.now.names store }
+        requires room { (b : ℕ) → length (masks (code_at image.now b).line) ≤ U.capacity unit }
+        ensures program { IfOk result (λ machine. machine.program ≡ image.now) }
+        ensures state { IfOk result (λ machine. machine.state ≡ start image.now store) }
+        ensures counts { IfOk result (λ machine. machine.counts ≡ replicate image.now.machine.processors 0) }
         ensures choice { IfOk result (λ machine. U.choice machine.unit ≡ U.choice unit) }
         ensures timing { IfOk result (λ machine. machine.timing ≡ timing) }
     {
-        core.laws();
-        let processors = usize::from(core.spec().processors());
+        image_laws(image);
+        let processors = usize::from(image.spec().processors());
         let rest = Actor {
             place: 0,
             task: Task::Rest,
@@ -81,12 +108,14 @@ impl<'a, U: BarrierUnit, T: Timing> Machine<'a, U, T> {
         let actors = vec![in alloc; rest; processors]?;
         let counts = vec![in alloc; 0; processors]?;
         let cells = vec![in alloc; 0; 128]?;
+        let agenda = Agenda::new(alloc, processors)?;
         let mut unit = unit;
         let mut told = Mask::empty();
-        unit.load(core.masks(0));
-        tell(&mut unit, &mut told, core, 0, &actors);
+        let mut able = Mask::empty();
+        unit.load(image.masks(0));
+        see_all(&mut unit, &mut told, &mut able, image, 0, &actors, 0);
         Ok(Machine {
-            core,
+            image,
             unit,
             timing,
             clock: 0,
@@ -94,24 +123,40 @@ impl<'a, U: BarrierUnit, T: Timing> Machine<'a, U, T> {
             actors,
             counts,
             told,
+            able,
+            agenda,
             cells,
             store,
             output: History::new(),
         })
     }
 
-    /// The memory. It holds each declared name as its kind asks.
+    /// What always holds: a run from a memory of the names has come to the state, in which each
+    /// processor has started at most one tuple more than there are ticks by now; the unit knows which
+    /// masks have fired, and within a block holds its masks and who waits.
+    pub fn laws(&self)
+        ensures reached { IsReached self.now.program self.now.state self.now.counts }
+        ensures few { (p : ℕ) → get_or self.now.counts p 0 ≤ self.now.state.clock + 1 }
+        ensures fired { U.fired self.now.unit ≡ self.now.state.fired }
+        ensures unit { (b : ℕ) → self.now.state.mode ≡ In b → (U.queue self.now.unit ≡ masks (code_at self.now.program b).line)
+            × (U.waiting self.now.unit ≡ waiting_mask (code_at self.now.program b) self.now.state) }
+    {
+        let _ = &self.unit;
+    }
+
+    /// The memory, one of the names of the program.
     pub fn store(&self) -> &Store
         ensures value { result.now ≡ self.now.state.world.memory }
-        ensures kinds { HasKinds self.now.program.names result.now }
+        ensures memory { IsMemoryOf self.now.program.names result.now }
     {
+        runs_keep_memories();
         &self.store
     }
 
     /// The clock, in ticks.
     pub fn clock(&self) -> u64
         ensures value { result ≡ self.now.state.clock }
-        ensures early { result ≤ 1000000000000 }
+        ensures early { result ≤ MOST_BUDGET }
     {
         self.clock
     }
@@ -121,15 +166,14 @@ impl<'a, U: BarrierUnit, T: Timing> Machine<'a, U, T> {
     /// What always holds.
     fn facts(&self)
         ensures stands { Stands self.now.program self.now.state }
-        ensures lawful { (b : ℕ) → self.now.state.mode ≡ In b → answers_lawfully (U.choice self.now.unit) self.now.program self.now.state (In b) }
-        ensures ticks { (b tick : ℕ) → self.now.state.mode ≡ In b → least_tick self.now.state.clock self.now.state.processors ≡ Some tick → self.now.state.clock ≤ tick }
+        ensures ticks { (b tick : ℕ) → self.now.state.mode ≡ In b → least_tick self.now.state.clock self.now.state.processors ≡ Some tick
+            → self.now.state.clock ≤ tick }
         ensures blocks { (b : ℕ) → self.now.state.mode ≡ In b → b < length self.now.program.blocks }
     {
-        self.core.laws();
-        self.core.times();
-        let _processors = self.core.spec().processors();
+        image_laws(self.image);
+        let _processors = self.image.spec().processors();
+        let _delay = self.image.spec().barrier();
         waiting_processors_have_masks();
-        choices_are_lawful();
     }
 
     /// The block in which the run is, None once it has ended.
@@ -143,28 +187,38 @@ impl<'a, U: BarrierUnit, T: Timing> Machine<'a, U, T> {
         }
     }
 
-    /// The lowest processor whose Finish is due.
+    /// The lowest processor whose Finish is due: the first of the agenda, where it ends by now.
     fn lowest_due(&self) -> Option<u8>
-        ensures { result ≡ first_from (λ p. is_due self.now.state.clock (processor self.now.state p).work) 0 self.now.program.machine.processors }
+        requires { (b : ℕ) × (self.now.state.mode ≡ In b) }
+        ensures { result ≡ first_from
+            (λ p. is_due self.now.state.clock (processor self.now.state p).work) 0 self.now.program.machine.processors }
     {
         self.facts();
-        lowest_due(&self.actors, self.clock)
+        match self.agenda.first() {
+            Some(entry) if entry.due.tick == self.clock => Some(entry.processor),
+            _ => None,
+        }
     }
 
     /// The lowest processor that can start a tuple of this block.
     fn lowest_start(&self, block: u32) -> Option<u8>
-        requires { block < length self.now.program.blocks }
+        requires { self.now.state.mode ≡ In block }
         ensures { result ≡ first_from (can_start (code_at self.now.program block) self.now.state) 0 self.now.program.machine.processors }
     {
         self.facts();
-        lowest_start(self.core, block, &self.actors)
+        lowest(self.able)
     }
 
-    /// The least tick of the processors that are busy, None where all are idle.
+    /// The least tick of the processors that are busy or held, None where all are free: that of the
+    /// first of the agenda.
     fn least_tick(&self) -> Option<u64>
         ensures { result ≡ least_tick self.now.state.clock self.now.state.processors }
     {
-        least_busy_tick(&self.actors)
+        self.facts();
+        match self.agenda.first() {
+            Some(entry) => Some(entry.due.tick),
+            None => None,
+        }
     }
 
     /// Starts processor p's next tuple.
@@ -173,26 +227,28 @@ impl<'a, U: BarrierUnit, T: Timing> Machine<'a, U, T> {
         requires none_due { NoneDue self.old.state }
         requires one { p < self.old.program.machine.processors }
         requires can { can_start (code_at self.old.program block) self.old.state p ≡ true }
-        ensures program { self.new.program ≡ self.old.program }
-        ensures choice { U.choice self.new.unit ≡ U.choice self.old.unit }
-        ensures timing { self.new.timing ≡ self.old.timing }
-        ensures starts { Starts (T.duration self.old.timing) self.old.program block p self.old.counts self.old.state result self.new.counts self.new.state }
-        ensures left { left_in self.new.program self.new.state self.new.state.mode < left_in self.old.program self.old.state self.old.state.mode }
+        ensures stays { Stays U.choice self.old self.new }
+        ensures starts { Starts (T.duration self.old.timing) self.old.program block p self.old.counts self.old.state result
+            self.new.counts self.new.state }
     {
-        self.core.laws();
+        image_laws(self.image);
+        let _processors = self.image.spec().processors();
         let actor = self.actors[p as usize];
-        let StreamItem::Do { tuple: number } = self.core.stream(block, p)[actor.place] else {
+        let StreamItem::Do { tuple: number } = self.image.stream(block, p)[actor.place] else {
             unreachable!()
         };
-        let tuple = self.core.tuples(block)[number as usize];
+        let tuple = self.image.tuples(block)[number as usize];
         let words = read(tuple, &self.cells, &self.store);
-        let interval = self.core.spec().time(class(tuple));
+        let interval = self.image.spec().time(class(tuple));
         let time = self.timing.time(p, self.counts[p as usize], interval);
+        let until = self.clock + u64::from(time);
         self.counts[p as usize] += 1;
+        self.able = without_one(self.able, p);
+        self.agenda.insert(p, Due::finish(until));
         self.actors[p as usize] = Actor {
             place: actor.place + 1,
             task: Task::Runs {
-                until: self.clock + u64::from(time),
+                until,
                 tuple: number,
                 count: words.count,
                 first: words.first,
@@ -212,14 +268,13 @@ impl<'a, U: BarrierUnit, T: Timing> Machine<'a, U, T> {
         requires within { self.old.state.mode ≡ In block }
         requires one { p < self.old.program.machine.processors }
         requires due { is_due self.old.state.clock (processor self.old.state p).work ≡ true }
-        ensures program { self.new.program ≡ self.old.program }
-        ensures choice { U.choice self.new.unit ≡ U.choice self.old.unit }
-        ensures timing { self.new.timing ≡ self.old.timing }
-        ensures counts { self.new.counts ≡ self.old.counts }
-        ensures finishes { Finishes self.old.program block p self.old.state result self.new.state }
-        ensures left { left_in self.new.program self.new.state self.new.state.mode < left_in self.old.program self.old.state self.old.state.mode }
+        requires lowest { first_from (λ q. is_due self.old.state.clock (processor self.old.state q).work) 0
+            self.old.program.machine.processors ≡ Some p }
+        ensures stays { Stays U.choice self.old self.new }
+        ensures finishes { Does self.old.program self.old.state self.old.counts (Finish p) result self.new.counts self.new.state }
     {
-        self.core.laws();
+        image_laws(self.image);
+        let _processors = self.image.spec().processors();
         let actor = self.actors[p as usize];
         let Task::Runs {
             tuple: number,
@@ -230,7 +285,7 @@ impl<'a, U: BarrierUnit, T: Timing> Machine<'a, U, T> {
         else {
             unreachable!()
         };
-        let tuple = self.core.tuples(block)[number as usize];
+        let tuple = self.image.tuples(block)[number as usize];
         let value = value(tuple, first, second);
         put(
             tuple,
@@ -241,16 +296,20 @@ impl<'a, U: BarrierUnit, T: Timing> Machine<'a, U, T> {
             &mut self.store,
         );
         print(tuple, value, &mut self.output);
-        self.actors[p as usize] = Actor {
+        let rested = Actor {
             place: actor.place,
             task: Task::Rest,
         };
-        tell(
+        self.actors[p as usize] = rested;
+        self.agenda.pop(p);
+        see(
             &mut self.unit,
             &mut self.told,
-            self.core,
-            block,
-            &self.actors,
+            &mut self.able,
+            self.image.stream(block, p),
+            p,
+            &rested,
+            self.clock,
         );
         finish_event(tuple, self.clock, p, number, value)
     }
@@ -259,23 +318,33 @@ impl<'a, U: BarrierUnit, T: Timing> Machine<'a, U, T> {
     fn fire(&mut self, block: u32) -> Option<Event>
         requires within { self.old.state.mode ≡ In block }
         requires none_due { NoneDue self.old.state }
-        ensures program { self.new.program ≡ self.old.program }
-        ensures choice { U.choice self.new.unit ≡ U.choice self.old.unit }
-        ensures timing { self.new.timing ≡ self.old.timing }
-        ensures counts { self.new.counts ≡ self.old.counts }
-        ensures fires { fires (U.choice self.old.unit) self.old.program block self.old.state result self.new.state }
+        ensures stays { Stays U.choice self.old self.new }
+        ensures fires { fires (U.choice self.old.unit) self.old.program block self.old.counts self.old.state result self.new.counts
+            self.new.state }
     {
         self.facts();
+        choices_are_lawful();
         let j = self.unit.pick()?;
-        let mask = self.core.masks(block)[j];
+        let mask = self.image.masks(block)[j];
+        let until = self.clock + u64::from(self.image.spec().barrier());
         self.told = self.told.without(mask);
-        pass(&mut self.actors, mask);
-        tell(
+        pass(&mut self.actors, mask, until);
+        hold(
+            &mut self.agenda,
+            self.image.spec().processors(),
+            mask,
+            self.clock,
+            until,
+        );
+        see_members(
             &mut self.unit,
             &mut self.told,
-            self.core,
+            &mut self.able,
+            self.image,
             block,
             &self.actors,
+            self.clock,
+            mask,
         );
         Some(Event::Fired {
             at: self.clock,
@@ -284,25 +353,34 @@ impl<'a, U: BarrierUnit, T: Timing> Machine<'a, U, T> {
         })
     }
 
-    /// Moves the clock to the least tick of the busy processors.
+    /// Moves the clock to the least tick of the processors that are busy or held. Whose hold is over
+    /// then, and whose next item is a wait, arrives.
     fn advance(&mut self, block: u32, tick: u64)
         requires within { self.old.state.mode ≡ In block }
-        requires none_due { NoneDue self.old.state }
-        requires none_starts { NoneStarts self.old.program (code_at self.old.program block) self.old.state }
-        requires none_fires { answer_at (U.choice self.old.unit) self.old.program block self.old.state ≡ None }
+        requires idle { IsIdle (U.choice self.old.unit) self.old.program block self.old.state }
         requires least { least_tick self.old.state.clock self.old.state.processors ≡ Some tick }
-        requires early { tick ≤ 1000000000000 }
-        ensures program { self.new.program ≡ self.old.program }
-        ensures choice { U.choice self.new.unit ≡ U.choice self.old.unit }
-        ensures timing { self.new.timing ≡ self.old.timing }
+        requires early { tick ≤ MOST_BUDGET }
+        ensures stays { Stays U.choice self.old self.new }
         ensures counts { self.new.counts ≡ self.old.counts }
         ensures may { May self.old.program self.old.state Advance }
         ensures effect { self.new.state ≡ after self.old.program self.old.state Advance }
-        ensures later { self.old.state.clock ≤ tick }
-        ensures due { IsSome (first_from (λ p. is_due tick (processor self.new.state p).work) 0 self.new.program.machine.processors) }
+        ensures later { self.old.state.clock < tick }
     {
         self.facts();
+        let _processors = self.image.spec().processors();
+        let clock = self.clock;
         self.clock = tick;
+        release(
+            &mut self.unit,
+            &mut self.told,
+            &mut self.able,
+            &mut self.agenda,
+            self.image,
+            block,
+            &self.actors,
+            clock,
+            tick,
+        );
     }
 
     /// Ends the run, where the block's streams have ended.
@@ -310,9 +388,7 @@ impl<'a, U: BarrierUnit, T: Timing> Machine<'a, U, T> {
         requires within { self.old.state.mode ≡ In block }
         requires may { May self.old.program self.old.state Branch }
         requires halts { target (code_at self.old.program block).next self.old.state.world ≡ Ended }
-        ensures program { self.new.program ≡ self.old.program }
-        ensures choice { U.choice self.new.unit ≡ U.choice self.old.unit }
-        ensures timing { self.new.timing ≡ self.old.timing }
+        ensures stays { Stays U.choice self.old self.new }
         ensures counts { self.new.counts ≡ self.old.counts }
         ensures effect { self.new.state ≡ after self.old.program self.old.state Branch }
         ensures event { result ≡ Over self.old.state.clock }
@@ -327,10 +403,8 @@ impl<'a, U: BarrierUnit, T: Timing> Machine<'a, U, T> {
         requires within { self.old.state.mode ≡ In block }
         requires may { May self.old.program self.old.state Branch }
         requires leads { target (code_at self.old.program block).next self.old.state.world ≡ Entering next }
-        requires early { self.old.state.clock < 1000000000000 }
-        ensures program { self.new.program ≡ self.old.program }
-        ensures choice { U.choice self.new.unit ≡ U.choice self.old.unit }
-        ensures timing { self.new.timing ≡ self.old.timing }
+        requires early { self.old.state.clock < MOST_BUDGET }
+        ensures stays { Stays U.choice self.old self.new }
         ensures counts { self.new.counts ≡ self.old.counts }
         ensures effect { self.new.state ≡ after self.old.program (after self.old.program self.old.state Branch) Enter }
         ensures event { result ≡ Entered (self.old.state.clock + 1) next }
@@ -343,14 +417,18 @@ impl<'a, U: BarrierUnit, T: Timing> Machine<'a, U, T> {
             place: 0,
             task: Task::Rest,
         });
+        self.agenda.clear();
         self.told = Mask::empty();
-        self.unit.load(self.core.masks(next));
-        tell(
+        self.able = Mask::empty();
+        self.unit.load(self.image.masks(next));
+        see_all(
             &mut self.unit,
             &mut self.told,
-            self.core,
+            &mut self.able,
+            self.image,
             next,
             &self.actors,
+            self.clock,
         );
         Event::Entered {
             at: self.clock,
@@ -364,7 +442,7 @@ impl<'a, U: BarrierUnit, T: Timing> Machine<'a, U, T> {
         ensures some { IfSome result (λ next. target (code_at self.now.program block).next self.now.state.world ≡ Entering next) }
         ensures none { IfNone result (target (code_at self.now.program block).next self.now.state.world ≡ Ended) }
     {
-        match self.core.next(block) {
+        match self.image.next(block) {
             Next::Halt => None,
             Next::Goto { block: next } => Some(next),
             Next::If { cell: c, yes, no } => Some(if cell(&self.cells, c) == 0 { no } else { yes }),
@@ -375,9 +453,7 @@ impl<'a, U: BarrierUnit, T: Timing> Machine<'a, U, T> {
     /// leaves it.
     fn leaves(&self, block: u32)
         requires within { self.now.state.mode ≡ In block }
-        requires none_due { due_finish self.now.program self.now.state ≡ None }
-        requires none_fires { answer_at (U.choice self.now.unit) self.now.program block self.now.state ≡ None }
-        requires none_starts { first_from (can_start (code_at self.now.program block) self.now.state) 0 self.now.program.machine.processors ≡ None }
+        requires idle { IsIdle (U.choice self.now.unit) self.now.program block self.now.state }
         requires none_works { least_tick self.now.state.clock self.now.state.processors ≡ None }
         ensures may { May self.now.program self.now.state Branch }
         ensures canonical { block_branch self.now.program (code_at self.now.program block) self.now.state ≡ Some Branch }
@@ -390,14 +466,10 @@ impl<'a, U: BarrierUnit, T: Timing> Machine<'a, U, T> {
     /// Leaves a block where nothing else can be done, unless the next is entered past `until`.
     fn branch(&mut self, block: u32, until: u64) -> Event
         requires within { self.old.state.mode ≡ In block }
-        requires none_due { due_finish self.old.program self.old.state ≡ None }
-        requires none_fires { answer_at (U.choice self.old.unit) self.old.program block self.old.state ≡ None }
-        requires none_starts { first_from (can_start (code_at self.old.program block) self.old.state) 0 self.old.program.machine.processors ≡ None }
+        requires idle { IsIdle (U.choice self.old.unit) self.old.program block self.old.state }
         requires none_works { least_tick self.old.state.clock self.old.state.processors ≡ None }
-        requires early { until ≤ 1000000000000 }
-        ensures program { self.new.program ≡ self.old.program }
-        ensures choice { U.choice self.new.unit ≡ U.choice self.old.unit }
-        ensures timing { self.new.timing ≡ self.old.timing }
+        requires early { until ≤ MOST_BUDGET }
+        ensures stays { Stays U.choice self.old self.new }
         ensures counts { self.new.counts ≡ self.old.counts }
         ensures may { May self.old.program self.old.state Branch }
         ensures canonical { block_branch self.old.program (code_at self.old.program block) self.old.state ≡ Some Branch }
@@ -412,85 +484,83 @@ impl<'a, U: BarrierUnit, T: Timing> Machine<'a, U, T> {
         }
     }
 
-    /// Moves the clock to the tick at which the next Finish is due, and does it.
-    fn wait(&mut self, block: u32, tick: u64, until: u64) -> Event
+    /// Does what the canonical run does next at this clock, if anything: a due Finish, what the unit
+    /// picks, or a Start.
+    fn act(&mut self, block: u32) -> Option<Event>
         requires within { self.old.state.mode ≡ In block }
-        requires none_due { due_finish self.old.program self.old.state ≡ None }
-        requires none_fires { answer_at (U.choice self.old.unit) self.old.program block self.old.state ≡ None }
-        requires none_starts { first_from (can_start (code_at self.old.program block) self.old.state) 0 self.old.program.machine.processors ≡ None }
-        requires least { least_tick self.old.state.clock self.old.state.processors ≡ Some tick }
-        requires early { tick ≤ until }
-        requires limit { until ≤ 1000000000000 }
-        ensures program { self.new.program ≡ self.old.program }
-        ensures choice { U.choice self.new.unit ≡ U.choice self.old.unit }
-        ensures timing { self.new.timing ≡ self.old.timing }
-        ensures answers { Answers (U.choice self.old.unit) (T.duration self.old.timing) self.old.program self.old.counts self.old.state until result self.new.counts self.new.state }
+        ensures stays { Stays U.choice self.old self.new }
+        ensures acts { acts (U.choice self.old.unit)
+            (T.duration self.old.timing) self.old.program block self.old.counts self.old.state result self.new.counts self.new.state }
     {
         self.facts();
-        self.advance(block, tick);
-        match self.lowest_due() {
-            Some(p) => self.finish(block, p),
-            None => unreachable!(),
+        if let Some(p) = self.lowest_due() {
+            return Some(self.finish(block, p));
+        }
+        if let Some(event) = self.fire(block) {
+            return Some(event);
+        }
+        match self.lowest_start(block) {
+            Some(p) => Some(self.start(block, p)),
+            None => None,
         }
     }
 
-    /// Where no Finish is due and nothing fires: a Start, the next Finish, or the block's end.
+    /// Goes on until the next event, or as far as the clock may go: where nothing can be done at a
+    /// clock it is moved, or the block is left.
     fn go_on(&mut self, block: u32, until: u64) -> Event
         requires within { self.old.state.mode ≡ In block }
-        requires none_due { due_finish self.old.program self.old.state ≡ None }
-        requires none_fires { answer_at (U.choice self.old.unit) self.old.program block self.old.state ≡ None }
         requires early { self.old.state.clock ≤ until }
-        requires limit { until ≤ 1000000000000 }
-        ensures program { self.new.program ≡ self.old.program }
-        ensures choice { U.choice self.new.unit ≡ U.choice self.old.unit }
-        ensures timing { self.new.timing ≡ self.old.timing }
-        ensures answers { Answers (U.choice self.old.unit) (T.duration self.old.timing) self.old.program self.old.counts self.old.state until result self.new.counts self.new.state }
+        requires limit { until ≤ MOST_BUDGET }
+        ensures stays { Stays U.choice self.old self.new }
+        ensures answers { Answers (U.choice self.old.unit)
+            (T.duration self.old.timing) self.old.program self.old.counts self.old.state until result self.new.counts self.new.state }
     {
         self.facts();
-        if let Some(p) = self.lowest_start(block) {
-            return self.start(block, p);
-        }
-        match self.least_tick() {
-            None => self.branch(block, until),
-            Some(tick) if tick > until => Event::Reached,
-            Some(tick) => self.wait(block, tick, until),
+        loop {
+            if let Some(event) = self.act(block) {
+                return event;
+            }
+            self.facts();
+            match self.least_tick() {
+                None => return self.branch(block, until),
+                Some(tick) if tick > until => return Event::Reached,
+                Some(tick) => self.advance(block, tick),
+            }
         }
     }
 
     /// The next event of the run, unless its clock would pass `until`.
     ///
-    /// The event is the next action of the canonical run on the unit's choice with this timing: one
-    /// Start, one Fire, a Finish with the Advance before it where one is needed, or a Branch with the
-    /// Enter behind it. `Reached` comes exactly where the clock would pass `until`, and changes
-    /// nothing. `Ended` comes exactly where the next action is the Branch that ends the run, or the
-    /// run has ended, at a clock of at most `until`; it comes again at later calls. It takes no memory.
+    /// It takes the next actions of the canonical run on the unit's choice with this timing, up to the
+    /// first that gives an event (`event_of`), which is the answer: a Finish, a Fire or a Start with
+    /// the Advances that stand before it, or a Branch with the Enter behind it. `Reached` comes
+    /// exactly where the event's clock would pass `until`; then the clock has gone on, at most to
+    /// `until`, by the Advances that stand before that event, and nothing else has changed. `Ended`
+    /// comes with the Branch that ends the run, and again at later calls. Once a tuple starts, its
+    /// producers have all finished in this execution of its block. It takes no memory.
     pub fn next(&mut self, until: u64) -> Event
-        requires { until ≤ 1000000000000 }
-        ensures program { self.new.program ≡ self.old.program }
-        ensures choice { U.choice self.new.unit ≡ U.choice self.old.unit }
-        ensures timing { self.new.timing ≡ self.old.timing }
-        ensures steps { (actions : List Action) × StandsFor result actions × Takes (U.choice self.old.unit) (T.duration self.old.timing) self.old.program self.old.counts self.old.state actions self.new.counts self.new.state }
-        ensures tells { (block : ℕ) → self.old.state.mode ≡ In block → tells (code_at self.old.program block) self.old.state result }
-        ensures at { is_at result self.new.state }
+        requires { until ≤ MOST_BUDGET }
+        ensures stays { Stays U.choice self.old self.new }
+        ensures steps { (actions : List Action) × StandsFor self.old.program self.old.state result actions
+            × Takes (U.choice self.old.unit)
+            (T.duration self.old.timing) self.old.program self.old.counts self.old.state actions self.new.counts self.new.state }
         ensures output { self.new.state.world.output ≡ self.old.state.world.output ++ printed_by result }
-        ensures reached { (past : List Action) → HasCounts self.old.counts past → (result ≡ Reached) ↔ (until < event_clock self.old.program self.old.state (next_to (U.choice self.old.unit) (T.duration self.old.timing) self.old.program self.old.state.mode past self.old.state)) }
-        ensures ended { (past : List Action) → HasCounts self.old.counts past → (result ≡ Over self.old.state.clock) ↔ ((self.old.state.clock ≤ until) × is_last self.old.program self.old.state (next_to (U.choice self.old.unit) (T.duration self.old.timing) self.old.program self.old.state.mode past self.old.state)) }
+        ensures at { is_at result self.new.state }
         ensures in_time { self.old.state.clock ≤ until → self.new.state.clock ≤ until }
+        ensures late { until < self.old.state.clock → (result ≡ Reached) × (self.new.state ≡ self.old.state) }
+        ensures reached { result ≡ Reached
+            → IsPast (U.choice self.old.unit) (T.duration self.old.timing) self.old.program self.new.counts self.new.state until }
+        ensures ended { self.old.state.clock ≤ until → self.old.state.mode ≡ Ended → result ≡ Over self.old.state.clock }
         ensures falls { goes_on result ≡ true → still until self.new.program self.new.state < still until self.old.program self.old.state }
+        ensures producers { ProducersHaveFinished self.old.program self.old.state result }
     {
         self.facts();
         if self.clock() > until {
             return Event::Reached;
         }
-        let Some(block) = self.block() else {
-            return Event::Ended { at: self.clock() };
-        };
-        if let Some(p) = self.lowest_due() {
-            return self.finish(block, p);
+        match self.block() {
+            Some(block) => self.go_on(block, until),
+            None => Event::Ended { at: self.clock() },
         }
-        if let Some(event) = self.fire(block) {
-            return event;
-        }
-        self.go_on(block, until)
     }
 }

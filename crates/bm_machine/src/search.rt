@@ -1,93 +1,78 @@
 // The processors that can go on.
-ghost use Rattle.std.specs.Prelude.{◌≡◌, ◌<◌, ◌≤◌, ◌&&◌, ℕ, length, map, slice_get};
-ghost use Rattle.unit_law.specs.Steps.{tick, lesser, least_tick};
-ghost use Rattle.unit_law.specs.State.{is_free, is_due, processor, code_at};
+ghost use Rattle.std.specs.Prelude.{◌≡◌, ◌<◌, ◌≤◌, ◌&&◌, ◌==◌, not, ℕ, slice_get};
+ghost use Rattle.bm_base.specs.Mask.{has_bit};
+ghost use Rattle.unit_law.specs.State.{is_free, is_wait};
 ghost use Rattle.unit_law.specs.Units.{first_from};
-ghost use Rattle.unit_law.specs.Canonical.{is_do, can_start};
-ghost use Rattle.bm_machine.specs.Shown.{work_of, processor_of, standing_at};
+ghost use Rattle.unit_law.specs.Canonical.{is_do};
+ghost use Rattle.bm_machine.specs.Shown.{work_of};
 
-use crate::Core;
 use crate::actor::{Actor, Task};
+use bm_base::Mask;
 use line_model::StreamItem;
 
-/// Whether a processor's Finish is due at this clock.
-fn is_due(actor: &Actor, clock: u64) -> bool
-    ensures { result ≡ is_due clock (work_of actor.now.task) }
+/// Whether a processor can go on at this clock.
+fn is_free(task: Task, clock: u64) -> bool
+    ensures { result ≡ is_free clock (work_of task) }
 {
-    match actor.task {
-        Task::Rest => false,
-        Task::Runs { until, .. } => until == clock,
-    }
-}
-
-/// The lowest processor whose Finish is due at this clock.
-pub(crate) fn lowest_due(actors: &[Actor], clock: u64) -> Option<u8>
-    requires { length actors.now ≤ 64 }
-    ensures { result ≡ first_from (λ p. is_due clock (processor (standing_at clock actors.now) p).work) 0 (length actors.now) }
-{
-    for p in 0..actors.len() {
-        if is_due(&actors[p], clock) {
-            return Some(p as u8);
-        }
-    }
-    None
-}
-
-/// Whether a processor is idle before a tuple of its stream.
-fn may_start(stream: &[StreamItem], actor: &Actor) -> bool
-    ensures { (clock : ℕ) → result ≡ (is_free clock (work_of actor.now.task) && is_do (slice_get stream.now actor.now.place)) }
-{
-    match actor.task {
-        Task::Rest => match stream.get(actor.place) {
-            Some(StreamItem::Do { .. }) => true,
-            _ => false,
-        },
+    match task {
+        Task::Rest => true,
         Task::Runs { .. } => false,
+        Task::Stays { until } => until <= clock,
     }
 }
 
-/// The lowest processor that can start a tuple.
-pub(crate) fn lowest_start(core: &Core, block: u32, actors: &[Actor]) -> Option<u8>
-    requires block { block < length core.now.blocks }
-    requires long { length actors.now ≡ core.now.machine.processors }
-    ensures { (clock : ℕ) → result ≡ first_from (can_start (code_at core.now block) (standing_at clock actors.now)) 0 (length actors.now) }
+/// Whether this item of a stream is a wait.
+fn is_wait(stream: &[StreamItem], place: usize) -> bool
+    ensures { result ≡ is_wait (slice_get stream.now place) }
 {
-    for p in 0..core.spec().processors() {
-        if may_start(core.stream(block, p), &actors[p as usize]) {
-            return Some(p);
-        }
-    }
-    None
-}
-
-/// The tick until which a processor is busy.
-fn tick_of(actor: &Actor) -> Option<u64>
-    ensures { (clock : ℕ) → result ≡ tick clock (work_of actor.now.task) }
-{
-    match actor.task {
-        Task::Rest => None,
-        Task::Runs { until, .. } => Some(until),
+    match stream.get(place) {
+        Some(StreamItem::Wait) => true,
+        _ => false,
     }
 }
 
-/// The lesser of two ticks, where there are such.
-fn lesser_of(a: Option<u64>, b: Option<u64>) -> Option<u64>
-    ensures { result ≡ lesser a b }
+/// Whether this item of a stream is a tuple.
+fn is_do(stream: &[StreamItem], place: usize) -> bool
+    ensures { result ≡ is_do (slice_get stream.now place) }
 {
-    match (a, b) {
-        (None, other) => other,
-        (Some(x), None) => Some(x),
-        (Some(x), Some(y)) => Some(if x <= y { x } else { y }),
+    match stream.get(place) {
+        Some(StreamItem::Do { .. }) => true,
+        _ => false,
     }
 }
 
-/// The least tick of the processors that are busy, None where all are idle.
-pub(crate) fn least_busy_tick(actors: &[Actor]) -> Option<u64>
-    ensures { (clock : ℕ) → result ≡ least_tick clock (map processor_of actors.now) }
+/// Whether a processor is free before a wait of its stream.
+pub(crate) fn is_waiting(stream: &[StreamItem], actor: &Actor, clock: u64) -> bool
+    ensures { result ≡ (is_free clock (work_of actor.now.task) && is_wait (slice_get stream.now actor.now.place)) }
 {
-    let mut least = None;
-    for actor in actors {
-        least = lesser_of(least, tick_of(actor));
+    is_free(actor.task, clock) && is_wait(stream, actor.place)
+}
+
+/// Whether a processor is free before a tuple of its stream.
+pub(crate) fn may_start(stream: &[StreamItem], actor: &Actor, clock: u64) -> bool
+    ensures { result ≡ (is_free clock (work_of actor.now.task) && is_do (slice_get stream.now actor.now.place)) }
+{
+    is_free(actor.task, clock) && is_do(stream, actor.place)
+}
+
+/// The lowest processor of a set.
+pub(crate) fn lowest(mask: Mask) -> Option<u8>
+    ensures { result ≡ first_from (has_bit mask) 0 128 }
+{
+    let number = mask.number();
+    if number == 0 {
+        None
+    } else {
+        Some(number.trailing_zeros() as u8)
     }
-    least
+}
+
+/// A set without one processor.
+pub(crate) fn without_one(mask: Mask, p: u8) -> Mask
+    requires { p < 128 }
+    ensures { (q : ℕ) → has_bit result q ≡ (has_bit mask q && not (q == p)) }
+{
+    let mut one = Mask::empty();
+    one.insert(p);
+    mask.without(one)
 }

@@ -5,7 +5,7 @@ use Rattle.std.proofs.lemmas.Option.{slice_get-get_or}
 use Rattle.bm_base.specs.Entry.{Entry}
 use Rattle.bm_base.specs.declared.names.Kind.TheVariants.{Var, Array}
 use Rattle.bm_base.specs.Memory.{Content, Word, Words}
-use Rattle.tuple_ir.specs.Memories.{IsOfKind, IsMemoryOf}
+use Rattle.bm_base.specs.Memories.{IsOfKind, IsMemoryOf}
 use Rattle.bm_report.specs.Held.{IsArrayOf}
 
 -- a name and what it holds

@@ -1,2 +1,5 @@
 pub mod Text
 pub mod Held
+pub mod Listing
+pub mod Summary
+pub mod Events

@@ -3,7 +3,7 @@ ghost use Rattle.std.specs.Prelude.{◌≡◌, ◌≤◌, ◌++◌, length, code
 ghost use Rattle.bm_io.specs.declared.sinks.SinkFault.TheVariants.{Failed};
 ghost use Rattle.bm_io.specs.Causes.{HasCause};
 ghost use Rattle.bm_io.specs.Sink.{Sent};
-ghost use Rattle.tuple_ir.specs.Memories.{IsMemoryOf};
+ghost use Rattle.bm_base.specs.Memories.{IsMemoryOf};
 ghost use Rattle.bm_report.specs.Text.{line, end_lines, done_lines, going_lines};
 
 use crate::memory::write_memory;
@@ -33,9 +33,7 @@ pub fn write_end<O: Sink>(
     ensures sent { Sent (O.taken out.old) (O.taken out.new) (end_lines clock names.now store.now) result }
     ensures cause { HasCause Failed (O.faults out.old) (O.faults out.new) result }
 {
-    if let Err(fault) = out.write(count_line(b"end ", clock).bytes()) {
-        return Err(fault);
-    }
+    out.write(count_line(b"end ", clock).bytes())?;
     write_memory(out, names, store)
 }
 
@@ -45,9 +43,7 @@ pub fn write_done<O: Sink>(out: &mut O, names: &Names, store: &Store) -> Result<
     ensures sent { Sent (O.taken out.old) (O.taken out.new) (done_lines names.now store.now) result }
     ensures cause { HasCause Failed (O.faults out.old) (O.faults out.new) result }
 {
-    if let Err(fault) = out.write(b"done\n") {
-        return Err(fault);
-    }
+    out.write(b"done\n")?;
     write_memory(out, names, store)
 }
 

@@ -3,7 +3,7 @@ ghost use Rattle.std.specs.Prelude.{◌≡◌, ◌≤◌, ◌<◌, ◌+◌, ◌*
 ghost use Rattle.bm_io.specs.declared.sinks.SinkFault.TheVariants.{Failed};
 ghost use Rattle.bm_io.specs.Causes.{HasCause};
 ghost use Rattle.bm_io.specs.Sink.{Sent};
-ghost use Rattle.tuple_ir.specs.Memories.{IsMemoryOf};
+ghost use Rattle.bm_base.specs.Memories.{IsMemoryOf};
 ghost use Rattle.bm_base.specs.Names.{AreNames};
 ghost use Rattle.bm_report.specs.Text.{memory_lines};
 ghost use Rattle.bm_base.specs.Memory.{IsVariable};
@@ -23,8 +23,7 @@ fn elements(store: &Store, id: u16, len: u64, first: u64, piece: &mut Piece)
     ensures text { piece.new ≡ piece.old ++ elements_at (slice_get store.now id) first 8 }
     ensures length { length piece.new ≤ length piece.old + 168 }
 {
-    let end = if first + ROW < len { first + ROW } else { len };
-    for index in first..end {
+    for index in first..len.min(first + ROW) {
         piece.text(b" ");
         piece.number(store.element(id, index as i64));
     }
@@ -43,7 +42,7 @@ fn name_piece(names: &Names, id: u16) -> Piece
 }
 
 /// The line of a variable.
-fn variable_line(names: &Names, store: &Store, id: u16) -> Piece
+pub(crate) fn variable_line(names: &Names, store: &Store, id: u16) -> Piece
     requires lawful { AreNames names.now }
     requires name { id < length names.now }
     requires variable { IsVariable store.now id }
@@ -57,7 +56,7 @@ fn variable_line(names: &Names, store: &Store, id: u16) -> Piece
 }
 
 /// The line of an array that begins with its element `first`.
-fn row_line(names: &Names, store: &Store, id: u16, len: u64, first: u64) -> Piece
+pub(crate) fn row_line(names: &Names, store: &Store, id: u16, len: u64, first: u64) -> Piece
     requires lawful { AreNames names.now }
     requires name { id < length names.now }
     requires array { IsArrayOf (slice_get store.now id) len }
@@ -89,11 +88,8 @@ fn write_array<O: Sink>(
     ensures sent { Sent (O.taken out.old) (O.taken out.new) (lines_at (slice_get names.now id) (slice_get store.now id)) result }
     ensures cause { HasCause Failed (O.faults out.old) (O.faults out.new) result }
 {
-    for row in 0..(len + (ROW - 1)) / ROW {
-        let line = row_line(names, store, id, len, row * ROW);
-        if let Err(fault) = out.write(line.bytes()) {
-            return Err(fault);
-        }
+    for row in 0..len.div_ceil(ROW) {
+        out.write(row_line(names, store, id, len, row * ROW).bytes())?;
     }
     Ok(())
 }
@@ -123,9 +119,7 @@ pub(crate) fn write_memory<O: Sink>(
     ensures cause { HasCause Failed (O.faults out.old) (O.faults out.new) result }
 {
     for id in 0..names.len() {
-        if let Err(fault) = write_name(out, names, store, id as u16) {
-            return Err(fault);
-        }
+        write_name(out, names, store, id as u16)?;
     }
     Ok(())
 }

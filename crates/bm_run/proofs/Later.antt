@@ -1,5 +1,6 @@
 -- With each action the clock stays or goes on, and the output stays or grows.
-use Rattle.std.proofs.Common.{◌≡◌, ℕ, zero, suc, ◌+◌, ◌≤◌, Bool, true, false, List, [], ◌∷◌, ◌++◌, set, replicate, Option, Some, None, refl, sym, ap, ◌∙◌, subst, le_refl, arith, append-nil, ℤ, if◌then◌else◌}
+use Rattle.std.proofs.Common.{◌≡◌, ℕ, zero, suc, ◌+◌, ◌≤◌, Bool, true, false, List, [], ◌∷◌, ◌++◌, set, replicate, Option, Some, None, refl, sym, ap, ◌∙◌, subst, le_refl, arith, append-nil, ℤ, nat_lt, if◌then◌else◌}
+use Rattle.std.proofs.lemmas.Bool.{ltb-true}
 use Rattle.bm_base.specs.Mask.{has_bit}
 use Rattle.bm_base.specs.Memory.{Content}
 use Rattle.tuple_ir.specs.declared.tuple.Tuple.{Tuple}
@@ -8,9 +9,9 @@ use Rattle.tuple_ir.specs.World.{World, write}
 use Rattle.tuple_ir.proofs.Growth.{prefix_refl}
 use Rattle.line_model.specs.declared.line.StreamItem.{StreamItem}
 use Rattle.line_model.specs.declared.line.StreamItem.TheVariants.{Do, Wait}
-use Rattle.unit_law.specs.State.{Code, Program, Mode, In, Entering, Ended, Work, Idle, Busy, Processor, State, at_start, code_at, processor, next_item}
+use Rattle.unit_law.specs.State.{Code, Program, Mode, In, Entering, Ended, Work, Idle, Busy, Held, Processor, State, at_start, code_at, processor, next_item}
 use Rattle.unit_law.specs.Steps.{Action, Finish, Fire, Start, Branch, Advance, Enter, tick, lesser, least_tick, or_clock, resumed, passed, started, written, finished, tuple_at, after_to, state_after}
-use Rattle.unit_law.specs.Determinate.{IsPrefixOf}
+use Rattle.bm_base.specs.Prefix.{IsPrefixOf}
 
 -- ---- the output
 write_grows : (i : ℕ) (t : Tuple) (operands : List ℤ) (w : World) → IsPrefixOf w.output (write i t operands w).output
@@ -39,6 +40,7 @@ written_grows (Some t) i operands w = write_grows i t operands w
 finished_grows : (code : Code) (work : Work) (w : World) → IsPrefixOf w.output (finished code work w).output
 finished_grows code Idle w = prefix_refl w.output
 finished_grows code (Busy until t operands) w = written_grows (tuple_at code t) t operands w
+finished_grows code (Held until) w = prefix_refl w.output
 
 started_same : (code : Code) (s : State) (p d : ℕ) (o : Option StreamItem) → (started code s p d o).world ≡ s.world
 started_same code s p d None = refl
@@ -66,6 +68,7 @@ grows m Ended s a = prefix_refl s.world.output
 abbrev IsLate : ℕ → Work → Type 0
 IsLate clock Idle = Unit {0}
 IsLate clock (Busy until t operands) = clock ≤ until
+IsLate clock (Held until) = Unit {0}
 
 -- no processor's work is over before the clock
 abbrev pub AllLate : ℕ → List Processor → Type 0
@@ -77,13 +80,19 @@ abbrev IsAhead : ℕ → Option ℕ → Type 0
 IsAhead clock None = Unit {0}
 IsAhead clock (Some t) = clock ≤ t
 
-tick_ahead : (clock n : ℕ) (w : Work) → IsLate n w → IsAhead n (tick clock w)
-tick_ahead clock n Idle h = tt
-tick_ahead clock n (Busy until t operands) h = h
+tick_ahead : (clock : ℕ) (w : Work) → IsLate clock w → IsAhead clock (tick clock w)
+tick_ahead clock Idle h = tt
+tick_ahead clock (Busy until t operands) h = h
+tick_ahead clock (Held until) h = go (nat_lt clock until) refl
+  where
+    go : (v : Bool) → nat_lt clock until ≡ v → IsAhead clock (if v then Some until else None)
+    go true e = let x = ltb-true clock until e in omega arith
+    go false e = tt
 
 tick_late : (clock n : ℕ) (w : Work) → IsAhead n (tick clock w) → IsLate n w
 tick_late clock n Idle h = tt
 tick_late clock n (Busy until t operands) h = h
+tick_late clock n (Held until) h = tt
 
 lesser_ahead : (n : ℕ) (a b : Option ℕ) → IsAhead n a → IsAhead n b → IsAhead n (lesser a b)
 lesser_ahead n None b h k = k
@@ -95,9 +104,9 @@ lesser_parts n None b h = (tt, h)
 lesser_parts n (Some x) None h = (h, tt)
 lesser_parts n (Some x) (Some y) h = (omega arith, omega arith)
 
-least_ahead : (clock n : ℕ) (qs : List Processor) → AllLate n qs → IsAhead n (least_tick clock qs)
-least_ahead clock n [] h = tt
-least_ahead clock n (q ∷ qs) h = lesser_ahead n (tick clock q.work) (least_tick clock qs) (tick_ahead clock n q.work h.0) (least_ahead clock n qs h.1)
+least_ahead : (clock : ℕ) (qs : List Processor) → AllLate clock qs → IsAhead clock (least_tick clock qs)
+least_ahead clock [] h = tt
+least_ahead clock (q ∷ qs) h = lesser_ahead clock (tick clock q.work) (least_tick clock qs) (tick_ahead clock q.work h.0) (least_ahead clock qs h.1)
 
 least_late : (clock n : ℕ) (qs : List Processor) → IsAhead n (least_tick clock qs) → AllLate n qs
 least_late clock n [] h = tt
@@ -105,20 +114,20 @@ least_late clock n (q ∷ qs) h = let parts = lesser_parts n (tick clock q.work)
 
 advance_late : (clock : ℕ) (qs : List Processor) (o : Option ℕ) → o ≡ least_tick clock qs → AllLate clock qs → AllLate (or_clock o clock) qs × (clock ≤ or_clock o clock)
 advance_late clock qs None e h = (h, le_refl clock)
-advance_late clock qs (Some t) e h = (least_late clock t qs (subst (IsAhead t) e (le_refl t)), subst (IsAhead clock) (sym e) (least_ahead clock clock qs h))
+advance_late clock qs (Some t) e h = (least_late clock t qs (subst (IsAhead t) e (le_refl t)), subst (IsAhead clock) (sym e) (least_ahead clock qs h))
 
 set_late : (clock : ℕ) (qs : List Processor) (p : ℕ) (q : Processor) → AllLate clock qs → IsLate clock q.work → AllLate clock (set qs p q)
 set_late clock [] p q h k = tt
 set_late clock (r ∷ qs) zero q h k = (k, h.1)
 set_late clock (r ∷ qs) (suc p) q h k = (h.0, set_late clock qs p q h.1 k)
 
-resumed_late : (clock : ℕ) (q : Processor) (v : Bool) → IsLate clock q.work → IsLate clock (if v then resumed q else q).work
-resumed_late clock q true h = tt
-resumed_late clock q false h = h
+resumed_late : (clock until : ℕ) (q : Processor) (v : Bool) → IsLate clock q.work → IsLate clock (if v then resumed until q else q).work
+resumed_late clock until q true h = tt
+resumed_late clock until q false h = h
 
-passed_late : (clock mask k : ℕ) (qs : List Processor) → AllLate clock qs → AllLate clock (passed mask k qs)
-passed_late clock mask k [] h = tt
-passed_late clock mask k (q ∷ qs) h = (resumed_late clock q (has_bit mask k) h.0, passed_late clock mask (suc k) qs h.1)
+passed_late : (clock until mask k : ℕ) (qs : List Processor) → AllLate clock qs → AllLate clock (passed until mask k qs)
+passed_late clock until mask k [] h = tt
+passed_late clock until mask k (q ∷ qs) h = (resumed_late clock until q (has_bit mask k) h.0, passed_late clock until mask (suc k) qs h.1)
 
 start_late : (code : Code) (s : State) (p d : ℕ) (o : Option StreamItem) → AllLate s.clock s.processors → AllLate (started code s p d o).clock (started code s p d o).processors × (s.clock ≤ (started code s p d o).clock)
 start_late code s p d None h = (h, le_refl s.clock)
@@ -132,7 +141,7 @@ idle_late clock (suc n) = (tt, idle_late clock n)
 -- an action keeps that no work is over before the clock, and the clock never falls
 pub late_after : (m : Program) (mode : Mode) (s : State) (a : Action) → AllLate s.clock s.processors → AllLate (after_to m mode s a).clock (after_to m mode s a).processors × (s.clock ≤ (after_to m mode s a).clock)
 late_after m (In b) s (Finish p) h = (set_late s.clock s.processors p _ h tt, le_refl s.clock)
-late_after m (In b) s (Fire j) h = (passed_late s.clock _ 0 s.processors h, le_refl s.clock)
+late_after m (In b) s (Fire j) h = (passed_late s.clock _ _ 0 s.processors h, le_refl s.clock)
 late_after m (In b) s (Start p d) h = start_late (code_at m b) s p d (next_item (code_at m b) s p) h
 late_after m (In b) s Branch h = (h, le_refl s.clock)
 late_after m (In b) s Advance h = advance_late s.clock s.processors (least_tick s.clock s.processors) refl h

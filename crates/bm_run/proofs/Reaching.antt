@@ -4,6 +4,7 @@ use Rattle.std.proofs.Common.{◌≡◌, ℕ, zero, suc, ◌+◌, ◌<◌, ◌�
 use Rattle.std.specs.Ordering.{int_eq}
 use Rattle.std.proofs.lemmas.Bool.{cases_lt}
 use Rattle.bm_base.specs.Memory.{Content}
+use Rattle.bm_base.specs.Memories.{IsMemoryOf}
 use Rattle.tuple_ir.specs.declared.block.Next.{Next}
 use Rattle.tuple_ir.specs.declared.block.Next.TheVariants.{Halt, Goto, If}
 use Rattle.tuple_ir.specs.World.{World, cell}
@@ -16,7 +17,8 @@ use Rattle.unit_law.specs.Fit.{AllFit, AllStand, HasTimes}
 use Rattle.unit_law.specs.Determinate.{HasFinished}
 use Rattle.unit_law.proofs.Inside.{Inside}
 use Rattle.unit_law.proofs.Ordered.{Holds, run_holds, started_mode}
-use Rattle.unit_law.proofs.Budgets.{steps_left, steps_inside}
+use Rattle.unit_law.proofs.Totals.{HoldsAre, holds_by}
+use Rattle.unit_law.proofs.Budgets.{steps_left, steps_inside, holds_after, HoldsRight, run_right}
 use Rattle.unit_law.proofs.CanonicalRuns.{canonical_runs}
 use Rattle.unit_law.proofs.RunsOn.{runs_on}
 use Rattle.bm_run.specs.RunUpTo.{IsLastBy, End, end_of, IsRunUpTo}
@@ -51,9 +53,9 @@ not_inside (If k one other) w c e = go (int_eq (cell w k) (pos 0)) e
     go true e = cc
     go false e = cc
 
-module _ (choice : Choice) (durations : Durations) (m : Program) (fit : AllFit m) (stand : AllStand m) (times : HasTimes m) (timing : IsTiming durations) (law : IsLawfulChoice choice m) (memory : List Content) where
+module _ (choice : Choice) (durations : Durations) (m : Program) (fit : AllFit m) (stand : AllStand m) (times : HasTimes m) (timing : IsTiming durations) (law : IsLawfulChoice choice m) (memory : List Content) (kinds : IsMemoryOf m.names memory) where
   runs : (past : List Action) → IsCanonical choice durations m memory past → IsRun m memory past
-  runs past c = runs_on choice m law memory past (canonical_runs choice durations m fit times timing memory past c)
+  runs past c = runs_on choice m law memory past kinds (canonical_runs choice durations m fit times timing memory past c)
 
   inside : (b : ℕ) (past : List Action) → IsCanonical choice durations m memory past → (state_after m memory past).mode ≡ In b → Inside m (code_at m b) (λ t. Unit {0}) (state_after m memory past)
   unfolding Holds
@@ -65,12 +67,21 @@ module _ (choice : Choice) (durations : Durations) (m : Program) (fit : AllFit m
   does : (b : ℕ) (past : List Action) (a : Action) → (state_after m memory past).mode ≡ In b → state_after m memory (a ∷ past) ≡ after_in m b (state_after m memory past) a
   does b past a e = ap (λ o. after_to m o (state_after m memory past) a) e
 
+  -- the steps that a run has left in block b
+  left : ℕ → List Action → ℕ
+  left b past = steps_left m fit stand b (holds_after m memory past) (state_after m memory past)
+
+  holds : (b : ℕ) (past : List Action) → IsCanonical choice durations m memory past → (state_after m memory past).mode ≡ In b → HoldsAre (code_at m b) (state_after m memory past) (holds_after m memory past)
+  unfolding HoldsRight
+  holds b past c e = subst (λ o. HoldsRight m (holds_after m memory past) o (state_after m memory past)) e (run_right m fit memory past (runs past c))
+
   -- within a block a step that is no Branch stays in it, and leaves fewer
-  fewer : (b : ℕ) (past : List Action) (a : Action) → IsCanonical choice durations m memory (a ∷ past) → (state_after m memory past).mode ≡ In b → (a ≡ Branch → ⊥) → suc (steps_left m fit stand b (state_after m memory (a ∷ past))) ≤ steps_left m fit stand b (state_after m memory past)
+  fewer : (b : ℕ) (past : List Action) (a : Action) → IsCanonical choice durations m memory (a ∷ past) → (state_after m memory past).mode ≡ In b → (a ≡ Branch → ⊥) → suc (left b (a ∷ past)) ≤ left b past
+  unfolding left holds_after
   fewer b past a c e ne =
       let may = subst (λ o. may_to m o (state_after m memory past) a) e (runs (a ∷ past) c).1 in
-      let x = steps_inside m fit stand b (state_after m memory past) (inside b past c.0 e) a may ne in
-      subst (λ s. suc (steps_left m fit stand b s) ≤ steps_left m fit stand b (state_after m memory past)) (sym (does b past a e)) x
+      let x = steps_inside m fit stand b (state_after m memory past) (holds_after m memory past) (inside b past c.0 e) (holds b past c.0 e) a may ne in
+      subst (λ s. suc (steps_left m fit stand b (holds_by m (state_after m memory past) a (holds_after m memory past)) s) ≤ steps_left m fit stand b (holds_after m memory past) (state_after m memory past)) (sym (does b past a e)) x
 
   still_in : (b : ℕ) (past : List Action) (a : Action) → (state_after m memory past).mode ≡ In b → (a ≡ Branch → ⊥) → (state_after m memory (a ∷ past)).mode ≡ In b
   still_in b past a e ne = ap (λ s. s.mode) (does b past a e) ∙ stays m b (state_after m memory past) a ne ∙ e
@@ -122,7 +133,7 @@ module _ (choice : Choice) (durations : Durations) (m : Program) (fit : AllFit m
       leave : (b : ℕ) (past : List Action) (a : Action) → (state_after m memory past).mode ≡ In b → a ≡ Branch → IsNear (suc ticks) (a ∷ past) → Found
       leave b past a e branch k = behind (a ∷ past) k (λ c f. not_inside (code_at m b).next (state_after m memory past).world c (sym (ap (λ d. (after_in m b (state_after m memory past) d).mode) branch) ∙ sym (ap (λ s. s.mode) (does b past a e)) ∙ f))
 
-      within : (b n : ℕ) (past : List Action) → IsNear (suc ticks) past → (state_after m memory past).mode ≡ In b → steps_left m fit stand b (state_after m memory past) ≤ n → Found
+      within : (b n : ℕ) (past : List Action) → IsNear (suc ticks) past → (state_after m memory past).mode ≡ In b → left b past ≤ n → Found
       within b zero past h e few = on (suc ticks) past h (λ a k. go a k (branch_or_not a))
         where
           go : (a : Action) → IsNear (suc ticks) (a ∷ past) → (a ≡ Branch) ⊎ (a ≡ Branch → ⊥) → Found
@@ -130,7 +141,7 @@ module _ (choice : Choice) (durations : Durations) (m : Program) (fit : AllFit m
           go a k (inr ne) = let x = fewer b past a k.canonical e ne in absurd (omega arith)
       within b (suc n) past h e few = on (suc ticks) past h (λ a k. go (λ k f l. within b n (a ∷ past) k f l) k (branch_or_not a))
         where
-          go : {a : Action} → (IsNear (suc ticks) (a ∷ past) → (state_after m memory (a ∷ past)).mode ≡ In b → steps_left m fit stand b (state_after m memory (a ∷ past)) ≤ n → Found) → IsNear (suc ticks) (a ∷ past) → (a ≡ Branch) ⊎ (a ≡ Branch → ⊥) → Found
+          go : {a : Action} → (IsNear (suc ticks) (a ∷ past) → (state_after m memory (a ∷ past)).mode ≡ In b → left b (a ∷ past) ≤ n → Found) → IsNear (suc ticks) (a ∷ past) → (a ≡ Branch) ⊎ (a ≡ Branch → ⊥) → Found
           go {a} more k (inl branch) = leave b past a e branch k
           go {a} more k (inr ne) = let x = fewer b past a k.canonical e ne in more k (still_in b past a e ne) (omega arith)
 
@@ -138,7 +149,7 @@ module _ (choice : Choice) (durations : Durations) (m : Program) (fit : AllFit m
       by_mode past h = go (state_after m memory past).mode refl
         where
           go : (mode : Mode) → (state_after m memory past).mode ≡ mode → Found
-          go (In b) e = within b (steps_left m fit stand b (state_after m memory past)) past h e (le_refl _)
+          go (In b) e = within b (left b past) past h e (le_refl _)
           go (Entering b) e = at_entry b past h e
           go Ended e = at_end (suc ticks) past h e
 

@@ -1,21 +1,39 @@
 -- The command table: what the words of a command line ask for.
-use Rattle.std.specs.Prelude.{ℕ, ◌&&◌, nat_eq, drop, List, [], ◌∷◌, Option, Some, None, if◌then◌else◌, nat_le, length, codes}
+use Rattle.std.specs.Prelude.{ℕ, nat_eq, drop, List, [], ◌∷◌, Option, Some, None, if◌then◌else◌, nat_le, length, codes}
 use Rattle.std.specs.Option.{option_map}
 use Rattle.std.specs.Str.{bytes_eq}
 use Rattle.std.specs.List.{starts_with}
+use Rattle.bm_base.specs.declared.limits.TheConstants.{MOST_TURNS, MOST_BUDGET}
 use Rattle.bm_base.specs.Numeral.{count_to}
-use Rattle.bm_words.specs.declared.command.ScriptWord.{ScriptWord}
-use Rattle.bm_words.specs.declared.command.ScriptWord.TheVariants.{Least, Most}
 
 -- the default machine, or one that a file describes
 pub data MachineOf : Type 0 where
   Default : MachineOf
   MachineFile : (name : List ℕ) → MachineOf
 
--- a row of the table: the program's file, and what else its words say
+-- the static unit, or the dynamic one
+pub data UnitOf : Type 0 where
+  Static : UnitOf
+  Dynamic : UnitOf
+
+-- each time of an instruction is its least, or its greatest
+pub data ScriptOf : Type 0 where
+  Least : ScriptOf
+  Most : ScriptOf
+
+-- on which unit a run goes, with which durations and for how many ticks
+pub record RunWordsOf : Type 0 where
+  pub unit : UnitOf
+  pub script : ScriptOf
+  pub budget : ℕ
+
+-- a row of the table: the file of a program or of an image, and what else its words say
 pub data Request : Type 0 where
   EvalOf : (program : List ℕ) (turns : ℕ) → Request
-  GoOf : (program : List ℕ) (machine : MachineOf) (script : ScriptWord) (budget : ℕ) → Request
+  GoOf : (program : List ℕ) (machine : MachineOf) (run : RunWordsOf) → Request
+  CompileOf : (program : List ℕ) (machine : MachineOf) (out : List ℕ) → Request
+  RunOf : (image : List ℕ) (run : RunWordsOf) → Request
+  CheckOf : (image : List ℕ) → Request
 
 infixl 10 ◌>>=◌
 abbrev pub ◌>>=◌ : {A B : Type 0} → Option A → (A → Option B) → Option B
@@ -39,41 +57,76 @@ number_of_word most word = if nat_le (length word) 20 then count_to most word el
 unfoldable pub machine_of : List ℕ → Option MachineOf
 machine_of word = if bytes_eq word (codes "default") then Some Default else option_map MachineFile (file_of word)
 
+-- sbm | dbm
+unfoldable pub unit_of : List ℕ → Option UnitOf
+unit_of word = if bytes_eq word (codes "sbm") then Some Static else (if bytes_eq word (codes "dbm") then Some Dynamic else None)
+
 -- least | most
-unfoldable pub script_of : List ℕ → Option ScriptWord
+unfoldable pub script_of : List ℕ → Option ScriptOf
 script_of word = if bytes_eq word (codes "least") then Some Least else (if bytes_eq word (codes "most") then Some Most else None)
+
+-- none
+unfoldable pub data_of : List ℕ → Option (Unit {0})
+data_of word = if bytes_eq word (codes "none") then Some tt else None
 
 -- eval PROG none TURNS
 abbrev pub eval_of : List (List ℕ) → Option Request
-eval_of (program ∷ given ∷ turns ∷ []) = if bytes_eq given (codes "none") then (do
+eval_of (program ∷ given ∷ turns ∷ []) = do
+  _ ← data_of given
   p ← name_of program
-  t ← number_of_word 1000000000 turns
-  Some (EvalOf p t)) else None
+  t ← number_of_word MOST_TURNS turns
+  Some (EvalOf p t)
 eval_of _ = None
 
--- how long a run goes on, and with which durations
-pub record TailOf : Type 0 where
-  pub script : ScriptWord
-  pub budget : ℕ
-
--- sbm SCRIPT none BUDGET
-unfoldable pub tail_of : List (List ℕ) → Option TailOf
-tail_of (unit ∷ script ∷ given ∷ budget ∷ []) = if bytes_eq unit (codes "sbm") && bytes_eq given (codes "none") then (do
+-- UNIT SCRIPT none BUDGET
+unfoldable pub run_words_of : List (List ℕ) → Option RunWordsOf
+run_words_of (unit ∷ script ∷ given ∷ budget ∷ []) = do
+  u ← unit_of unit
   s ← script_of script
-  b ← number_of_word 1000000000000 budget
-  Some (record { script = s; budget = b })) else None
-tail_of _ = None
+  _ ← data_of given
+  b ← number_of_word MOST_BUDGET budget
+  Some (record { unit = u; script = s; budget = b })
+run_words_of _ = None
 
--- go PROG MACH sbm SCRIPT none BUDGET
+-- go PROG MACH UNIT SCRIPT none BUDGET
 abbrev pub go_of : List (List ℕ) → Option Request
 go_of (program ∷ machine ∷ rest) = do
   p ← name_of program
   m ← machine_of machine
-  t ← tail_of rest
-  Some (GoOf p m t.script t.budget)
+  r ← run_words_of rest
+  Some (GoOf p m r)
 go_of _ = None
+
+-- compile PROG MACH OUT
+abbrev pub compile_of : List (List ℕ) → Option Request
+compile_of (program ∷ machine ∷ out ∷ []) = do
+  p ← name_of program
+  m ← machine_of machine
+  o ← name_of out
+  Some (CompileOf p m o)
+compile_of _ = None
+
+-- run IMAGE UNIT SCRIPT none BUDGET
+abbrev pub run_of : List (List ℕ) → Option Request
+run_of (image ∷ rest) = do
+  i ← name_of image
+  r ← run_words_of rest
+  Some (RunOf i r)
+run_of _ = None
+
+-- check IMAGE
+abbrev pub check_of : List (List ℕ) → Option Request
+check_of (image ∷ []) = do
+  i ← name_of image
+  Some (CheckOf i)
+check_of _ = None
 
 -- what the words ask for, none where they match no row
 abbrev pub request_of : List (List ℕ) → Option Request
 request_of [] = None
-request_of (verb ∷ words) = if bytes_eq verb (codes "eval") then eval_of words else (if bytes_eq verb (codes "go") then go_of words else None)
+request_of (verb ∷ words) =
+    if bytes_eq verb (codes "eval") then eval_of words else
+    (if bytes_eq verb (codes "go") then go_of words else
+    (if bytes_eq verb (codes "compile") then compile_of words else
+    (if bytes_eq verb (codes "run") then run_of words else
+    (if bytes_eq verb (codes "check") then check_of words else None))))

@@ -7,5 +7,5 @@ mod command;
 mod rows;
 mod words;
 
-pub use command::{Command, Machine, ScriptWord};
+pub use command::{Command, MachineWord, RunWords, ScriptWord, UnitWord};
 pub use rows::match_words;

@@ -2,16 +2,12 @@
 ghost use Rattle.std.specs.Prelude.{◌≡◌, ◌≤◌, map, IfSome};
 ghost use Rattle.std.specs.Option.{option_map};
 ghost use Rattle.std.specs.String.{string_bytes};
-ghost use Rattle.bm_words.specs.Table.{eval_of, tail_of, go_of, request_of};
-ghost use Rattle.bm_words.specs.Seen.{seen_tail, seen_command, IsInRange};
+ghost use Rattle.bm_words.specs.Table.{eval_of, run_words_of, go_of, compile_of, run_of, check_of, request_of};
+ghost use Rattle.bm_words.specs.Seen.{seen_run, seen_command, IsInRange};
 
-use crate::Command;
-use crate::command::Tail;
-use crate::words::{machine_word, name_word, number_word, script_word};
-
-const MOST_TURNS: u64 = 1_000_000_000;
-
-const MOST_BUDGET: u64 = 1_000_000_000_000;
+use crate::words::{data_word, machine_word, name_word, number_word, script_word, unit_word};
+use crate::{Command, RunWords};
+use bm_base::{MOST_BUDGET, MOST_TURNS};
 
 /// `PROG none TURNS`
 fn eval_row(words: &[String]) -> Option<Command<'_>>
@@ -21,35 +17,33 @@ fn eval_row(words: &[String]) -> Option<Command<'_>>
     let [program, given, turns] = words else {
         return None;
     };
-    if given.as_str() != "none" {
-        return None;
-    }
+    data_word(given.as_str())?;
     let program = name_word(program.as_str())?;
     let turns = number_word(MOST_TURNS, turns.as_str())?;
     Some(Command::Eval { program, turns })
 }
 
-/// `sbm SCRIPT none BUDGET`
-#[tactic(auto, unfolding(crate::specs::Table::tail_of))]
-fn tail_row(words: &[String]) -> Option<Tail>
-    ensures row { option_map seen_tail result ≡ tail_of (map string_bytes words.now) }
-    ensures range { IfSome result (λ tail. tail.budget ≤ 1000000000000) }
+/// `UNIT SCRIPT none BUDGET`
+#[tactic(auto, unfolding(crate::specs::Table::run_words_of))]
+fn run_words(words: &[String]) -> Option<RunWords>
+    ensures row { option_map seen_run result ≡ run_words_of (map string_bytes words.now) }
+    ensures range { IfSome result (λ run. run.budget ≤ MOST_BUDGET) }
 {
     let [unit, script, data, budget] = words else {
         return None;
     };
-    if unit.as_str() != "sbm" {
-        return None;
-    }
-    if data.as_str() != "none" {
-        return None;
-    }
+    let unit = unit_word(unit.as_str())?;
     let script = script_word(script.as_str())?;
+    data_word(data.as_str())?;
     let budget = number_word(MOST_BUDGET, budget.as_str())?;
-    Some(Tail { script, budget })
+    Some(RunWords {
+        unit,
+        script,
+        budget,
+    })
 }
 
-/// `PROG MACH sbm SCRIPT none BUDGET`
+/// `PROG MACH UNIT SCRIPT none BUDGET`
 fn go_row(words: &[String]) -> Option<Command<'_>>
     ensures row { option_map seen_command result ≡ go_of (map string_bytes words.now) }
     ensures range { IfSome result IsInRange }
@@ -59,13 +53,55 @@ fn go_row(words: &[String]) -> Option<Command<'_>>
     };
     let program = name_word(program.as_str())?;
     let machine = machine_word(machine.as_str())?;
-    let tail = tail_row(rest)?;
+    let run = run_words(rest)?;
     Some(Command::Go {
         program,
         machine,
-        script: tail.script,
-        budget: tail.budget,
+        run,
     })
+}
+
+/// `PROG MACH OUT`
+fn compile_row(words: &[String]) -> Option<Command<'_>>
+    ensures row { option_map seen_command result ≡ compile_of (map string_bytes words.now) }
+    ensures range { IfSome result IsInRange }
+{
+    let [program, machine, out] = words else {
+        return None;
+    };
+    let program = name_word(program.as_str())?;
+    let machine = machine_word(machine.as_str())?;
+    let out = name_word(out.as_str())?;
+    Some(Command::Compile {
+        program,
+        machine,
+        out,
+    })
+}
+
+/// `IMAGE UNIT SCRIPT none BUDGET`
+fn run_row(words: &[String]) -> Option<Command<'_>>
+    ensures row { option_map seen_command result ≡ run_of (map string_bytes words.now) }
+    ensures range { IfSome result IsInRange }
+{
+    let [image, rest @ ..] = words else {
+        return None;
+    };
+    let image = name_word(image.as_str())?;
+    let run = run_words(rest)?;
+    Some(Command::Run { image, run })
+}
+
+/// `IMAGE`
+fn check_row(words: &[String]) -> Option<Command<'_>>
+    ensures row { option_map seen_command result ≡ check_of (map string_bytes words.now) }
+    ensures range { IfSome result IsInRange }
+{
+    let [image] = words else {
+        return None;
+    };
+    let image = name_word(image.as_str())?;
+    Some(Command::Check { image })
 }
 
 /// What the words ask for, none where they match no row of the table.
@@ -79,6 +115,9 @@ pub fn match_words(words: &[String]) -> Option<Command<'_>>
     match verb.as_str() {
         "eval" => eval_row(rest),
         "go" => go_row(rest),
+        "compile" => compile_row(rest),
+        "run" => run_row(rest),
+        "check" => check_row(rest),
         _ => None,
     }
 }

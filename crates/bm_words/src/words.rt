@@ -1,10 +1,10 @@
 // Single words.
 ghost use Rattle.std.specs.Prelude.{◌≡◌, ◌≤◌, IfSome};
 ghost use Rattle.std.specs.Option.{option_map};
-ghost use Rattle.bm_words.specs.Table.{name_of, file_of, number_of_word, machine_of, script_of};
-ghost use Rattle.bm_words.specs.Seen.{seen_name, seen_machine};
+ghost use Rattle.bm_words.specs.Table.{name_of, file_of, number_of_word, machine_of, unit_of, script_of, data_of};
+ghost use Rattle.bm_words.specs.Seen.{seen_name, seen_machine, seen_unit, seen_script};
 
-use crate::{Machine, ScriptWord};
+use crate::{MachineWord, ScriptWord, UnitWord};
 use bm_base::count;
 
 const MOST_DIGITS: usize = 20;
@@ -22,10 +22,7 @@ pub(crate) fn name_word(word: &str) -> Option<&str>
 fn file_word(word: &str) -> Option<&str>
     ensures { option_map seen_name result ≡ file_of word.now }
 {
-    match word.strip_prefix("file:") {
-        Some(name) => name_word(name),
-        None => None,
-    }
+    name_word(word.strip_prefix("file:")?)
 }
 
 /// A number of 1 to 20 digits, of at most `most`.
@@ -45,22 +42,34 @@ pub(crate) fn number_word(most: u64, word: &str) -> Option<u64>
 
 /// A machine.
 #[tactic(auto, unfolding(crate::specs::Table::machine_of))]
-pub(crate) fn machine_word(word: &str) -> Option<Machine<'_>>
+pub(crate) fn machine_word(word: &str) -> Option<MachineWord<'_>>
     ensures { option_map seen_machine result ≡ machine_of word.now }
 {
     if word == "default" {
-        return Some(Machine::Standard);
+        return Some(MachineWord::Standard);
     }
-    match file_word(word) {
-        Some(name) => Some(Machine::File { name }),
-        None => None,
+    let name = file_word(word)?;
+    Some(MachineWord::File { name })
+}
+
+/// A barrier unit.
+#[tactic(auto, unfolding(crate::specs::Table::unit_of))]
+pub(crate) fn unit_word(word: &str) -> Option<UnitWord>
+    ensures { option_map seen_unit result ≡ unit_of word.now }
+{
+    if word == "sbm" {
+        return Some(UnitWord::Static);
     }
+    if word == "dbm" {
+        return Some(UnitWord::Dynamic);
+    }
+    None
 }
 
 /// A script.
 #[tactic(auto, unfolding(crate::specs::Table::script_of))]
 pub(crate) fn script_word(word: &str) -> Option<ScriptWord>
-    ensures { result ≡ script_of word.now }
+    ensures { option_map seen_script result ≡ script_of word.now }
 {
     if word == "least" {
         return Some(ScriptWord::Least);
@@ -69,4 +78,12 @@ pub(crate) fn script_word(word: &str) -> Option<ScriptWord>
         return Some(ScriptWord::Most);
     }
     None
+}
+
+/// Data: none is given.
+#[tactic(auto, unfolding(crate::specs::Table::data_of))]
+pub(crate) fn data_word(word: &str) -> Option<()>
+    ensures { result ≡ data_of word.now }
+{
+    if word == "none" { Some(()) } else { None }
 }

@@ -27,7 +27,7 @@ fn main(rt: HostRuntime) -> ExitCode {
     let words = match words(&rt) {
         Ok(words) => words,
         Err(fault) if fault.kind() == ErrorKind::OutOfMemory => {
-            return ExitCode::from(report(&mut err, &Stop::Memory));
+            return ExitCode::from(report(alloc, &mut err, &Stop::Memory));
         }
         Err(_) => Vec::new(alloc),
     };

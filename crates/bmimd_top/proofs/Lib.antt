@@ -1,4 +1,5 @@
 pub mod Rows
 pub mod Settled
 pub mod Leads
-pub mod Evaluating
+pub mod Given
+pub mod Headline

@@ -1,18 +1,17 @@
 -- What may be said of the course of each row: its refusals and outputs have their statuses.
-use Rattle.std.proofs.Common.{◌≡◌, ℕ, List, Option, Some, None, Err, refl, sym, subst, ◌∙◌, inl, inr, arith}
-use Rattle.bm_io.specs.Files.{Held}
-use Rattle.bm_base.specs.Machine.{Machine}
-use Rattle.bm_words.specs.declared.command.ScriptWord.{ScriptWord}
-use Rattle.bm_words.specs.Table.{Request, MachineOf, EvalOf, GoOf}
-use Rattle.bm_course.specs.Course.{Refused, Output, Course, ◌>>=◌, give, refuse, judge}
+use Rattle.std.proofs.Common.{◌≡◌, ℕ, List, Option, Some, None, refl, sym, ap, subst, ◌∙◌, inl, inr}
+use Rattle.bm_words.specs.Table.{Request, MachineOf, RunWordsOf, EvalOf, GoOf, CompileOf, RunOf, CheckOf}
+use Rattle.bm_course.specs.Status.{OfWords, IsOfContent, IsRefusal, HasEnded, kind_of}
+use Rattle.bm_course.specs.Course.{Refused, Product, text_only, Course, ◌>>=◌, give, refuse, judge}
 use Rattle.bm_course.specs.Lines.{usage}
 use Rattle.bm_course.specs.Laws.{IsDetermined, Bounds}
-use Rattle.bm_course.specs.Goes.{Seen, Goes}
-use Rattle.bm_course.specs.Clauses.{IsRefused, IsRefusal, HasEnded}
+use Rattle.bm_course.specs.Seen.{Seen}
+use Rattle.bm_course.specs.Goes.{Goes}
+use Rattle.bm_course.specs.Clauses.{HasWritten, IsRefused}
 use Rattle.bm_course.specs.Answers.{Answers}
-use Rattle.bm_course.proofs.Statuses.{then-bounds, judge-bounds, give-bounds, refuse-bounds, wider-bounds, content_refusal, content_only, outcome, refused_only, refused_at_once}
+use Rattle.bm_course.proofs.Bounds.{then-bounds, judge-bounds, give-bounds, refuse-bounds, wider-bounds}
+use Rattle.bm_course.proofs.Statuses.{outcome, refused_only, refused_at_once}
 use Rattle.bm_course.proofs.Answering.{answered}
-use Rattle.src_names.specs.RProgram.{RProgram}
 use Rattle.src_meaning.specs.declared.evaluate.End as e
 use Rattle.src_meaning.specs.declared.evaluate.End.TheVariants.{Done, More}
 use Rattle.bm_run.specs.RunUpTo.{End}
@@ -20,70 +19,104 @@ use Rattle.run_text.specs.RunText.{run_status}
 use Rattle.bm_inputs.specs.Sources.{source_course}
 use Rattle.bm_inputs.specs.Machines.{machine_course}
 use Rattle.bm_inputs.proofs.Courses.{refusal, source-bounds, machine-bounds}
-use Rattle.bmimd_top.specs.Evaluation.{eval_text, end_status}
-use Rattle.bmimd_top.specs.Running.{Compiles, Runs, image_course, script_of}
-use Rattle.bmimd_top.specs.Command.{eval_course, go_course, course_by}
+use Rattle.unit_law.specs.State.{Program}
+use Rattle.stream_image.specs.Image.{IsImage}
+use Rattle.image_inputs.specs.Images.{loaded_course}
+use Rattle.image_inputs.proofs.Courses.{loaded-bounds}
+use Rattle.eval_text.specs.EvalText.{eval_text, end_status}
+use Rattle.bmimd_top.specs.Running.{Compiles, Runs, image_course, counts_text}
+use Rattle.bmimd_top.specs.Compiling.{Makes, made_course, product_of}
+use Rattle.bmimd_top.specs.Command.{eval_course, go_course, compile_course, run_course, check_course, course_by}
 use Rattle.bmimd_top.specs.Clauses.{IsUsage}
 
-abbrev ended : Output → Type 0
-ended o = HasEnded o.status
+abbrev ended : Product → Type 0
+ended p = HasEnded p.text.status
 
 end_ended : (x : e.End) → HasEnded (end_status x)
-end_ended Done = inl refl
-end_ended More = inr refl
+end_ended Done = refl
+end_ended More = refl
 
 -- `eval`
 eval-bounds : (name : List ℕ) (turns : ℕ) → Bounds refusal ended (eval_course name turns)
-eval-bounds name turns = then-bounds refusal (λ p. Unit {0}) ended (source_course name) (λ p. give (eval_text p turns)) (source-bounds name) (λ p t. give-bounds refusal ended (eval_text p turns) (end_ended _))
+eval-bounds name turns = then-bounds refusal (λ p. Unit {0}) ended (source_course name) (λ p. give (text_only (eval_text p turns))) (source-bounds name) (λ p t. give-bounds refusal ended (text_only (eval_text p turns)) (end_ended _))
 
 -- `go`
-not_built_refused : (machine : Machine) (p : RProgram) (r : Refused) → Compiles machine p (Err r) → refusal r
-not_built_refused machine p r h = subst refusal (sym h.1) (inr refl)
-
 image-bounds : (name : List ℕ) (machine : MachineOf) → Bounds refusal (λ m. Unit {0}) (image_course name machine)
 image-bounds name machine =
     then-bounds refusal (λ p. Unit {0}) (λ m. Unit {0}) (source_course name) (λ p. machine_course machine >>= (λ spec. judge (Compiles spec p))) (source-bounds name)
     (λ p t. then-bounds refusal (λ m. Unit {0}) (λ m. Unit {0}) (machine_course machine) (λ spec. judge (Compiles spec p)) (machine-bounds machine)
-    (λ spec u. judge-bounds refusal (λ m. Unit {0}) (Compiles spec p) (λ m h. tt) (λ r h. not_built_refused spec p r h)))
+    (λ spec u. judge-bounds refusal (λ m. Unit {0}) (Compiles spec p) (λ m h. tt) (λ r h. absurd h)))
 
 run_ended : (e : Option End) → HasEnded (run_status e)
-run_ended (Some e) = inl refl
-run_ended None = inr refl
+run_ended (Some e) = refl
+run_ended None = refl
 
-go-bounds : (name : List ℕ) (machine : MachineOf) (script : ScriptWord) (budget : ℕ) → Bounds refusal ended (go_course name machine script budget)
-go-bounds name machine script budget =
-    then-bounds refusal (λ m. Unit {0}) ended (image_course name machine) (λ image. judge (Runs image (script_of script) budget)) (image-bounds name machine)
-    (λ image t. judge-bounds refusal ended (Runs image (script_of script) budget) (λ text h. subst ended (sym h.text_is) (run_ended h.end)) (λ r h. absurd h))
+text-bounds : (image : Program) (run : RunWordsOf) → Bounds refusal ended (judge (Runs image run))
+text-bounds image run = judge-bounds refusal ended (Runs image run) (λ p h. subst ended (sym h.2) (subst (λ t. HasEnded t.status) (sym h.1.text_is) (run_ended h.1.end))) (λ r h. absurd h)
+
+go-bounds : (name : List ℕ) (machine : MachineOf) (run : RunWordsOf) → Bounds refusal ended (go_course name machine run)
+go-bounds name machine run = then-bounds refusal (λ m. Unit {0}) ended (image_course name machine) (λ image. judge (Runs image run)) (image-bounds name machine) (λ image t. text-bounds image run)
+
+-- `compile`
+made-bounds : (name : List ℕ) (machine : MachineOf) → Bounds refusal (λ m. Unit {0}) (made_course name machine)
+made-bounds name machine =
+    then-bounds refusal (λ p. Unit {0}) (λ m. Unit {0}) (source_course name) (λ p. machine_course machine >>= (λ spec. judge (Makes spec p))) (source-bounds name)
+    (λ p t. then-bounds refusal (λ m. Unit {0}) (λ m. Unit {0}) (machine_course machine) (λ spec. judge (Makes spec p)) (machine-bounds machine)
+    (λ spec u. judge-bounds refusal (λ m. Unit {0}) (Makes spec p) (λ m h. tt) (λ r h. absurd h)))
+
+compile-bounds : (name : List ℕ) (machine : MachineOf) (out : List ℕ) → Bounds refusal ended (compile_course name machine out)
+compile-bounds name machine out =
+    then-bounds refusal (λ m. Unit {0}) ended (made_course name machine) (λ made. give (product_of out made)) (made-bounds name machine) (λ made t. give-bounds refusal ended (product_of out made) refl)
+
+-- `run`
+run-bounds : (name : List ℕ) (run : RunWordsOf) → Bounds refusal ended (run_course name run)
+run-bounds name run = then-bounds refusal IsImage ended (loaded_course name) (λ image. judge (Runs image run)) (loaded-bounds name) (λ image t. text-bounds image run)
+
+-- `check`
+check-bounds : (name : List ℕ) → Bounds refusal ended (check_course name)
+check-bounds name = then-bounds refusal IsImage ended (loaded_course name) (λ image. give (text_only (counts_text image))) (loaded-bounds name) (λ image t. give-bounds refusal ended (text_only (counts_text image)) refl)
 
 -- refusals of words too
 abbrev refusals : Refused → Type 0
 refusals r = IsRefusal r.status
 
 usage-bounds : Bounds refusals ended (refuse usage)
-usage-bounds = refuse-bounds refusals ended usage (inl (omega arith, omega arith))
+usage-bounds = refuse-bounds refusals ended usage (inl refl)
 
-all : (course : Course Output) → Bounds refusal ended course → Bounds refusals ended course
-all course b = wider-bounds refusal refusals ended course (λ r h. content_refusal r.status h) b
+all : (course : Course Product) → Bounds refusal ended course → Bounds refusals ended course
+all course b = wider-bounds refusal refusals ended course (λ r h. inr h) b
 
 -- each row
 row-bounds : (q : Option Request) → Bounds refusals ended (course_by q)
 row-bounds None = usage-bounds
 row-bounds (Some (EvalOf name turns)) = all (eval_course name turns) (eval-bounds name turns)
-row-bounds (Some (GoOf name machine script budget)) = all (go_course name machine script budget) (go-bounds name machine script budget)
+row-bounds (Some (GoOf name machine run)) = all (go_course name machine run) (go-bounds name machine run)
+row-bounds (Some (CompileOf name machine out)) = all (compile_course name machine out) (compile-bounds name machine out)
+row-bounds (Some (RunOf name run)) = all (run_course name run) (run-bounds name run)
+row-bounds (Some (CheckOf name)) = all (check_course name) (check-bounds name)
 
-module _ (told : Option Held) (before now : Seen) (status : ℕ) where
-  pub row-answers : (q : Option Request) → IsDetermined (course_by q) → Goes told before now (course_by q) status → Answers told before now (course_by q) status
-  row-answers q d g = answered told before now (course_by q) status d (row-bounds q) g
+module _ (before now : Seen) (status : ℕ) where
+  pub row-answers : (q : Option Request) → IsDetermined (course_by q) → Goes before now (course_by q) status → Answers before now (course_by q) status
+  row-answers q d g = answered before now (course_by q) status d (row-bounds q) g
 
-  not_usage : (course : Course Output) → Bounds refusal ended course → Goes told before now course status → status ≡ 1 → ⊥
+  -- where it ends with status 0 or 8, its product was written
+  pub row-written : (q r : Option Request) → IsDetermined (course_by q) → Goes before now (course_by q) status → q ≡ r → HasEnded status → HasWritten before now (course_by r) status
+  row-written q r d g e h = subst (λ x. HasWritten before now (course_by x) status) e ((row-answers q d g).ended h)
+
+  not_usage : (course : Course Product) → Bounds refusal ended course → Goes before now course status → status ≡ 1 → ⊥
   not_usage course b g e =
-      let r : IsRefused told before now course status = refused_only told before now course status (all course b) (outcome told before now course status g) (inl (omega arith, omega arith)) in
-      content_only r.refusal.status (b.refuses r.contents r.refusal r.refuses) (sym r.status_is ∙ e)
+      let r : IsRefused before now course status = refused_only before now course status (all course b) (outcome before now course status g) (inl (ap kind_of e)) in
+      let c : IsOfContent r.refusal.status = b.refuses r.contents r.refusal r.refuses in
+      let w : kind_of r.refusal.status ≡ Some OfWords = ap kind_of (sym r.status_is ∙ e) in
+      cc
 
-  pub usage_only : (q : Option Request) → Goes told before now (course_by q) status → status ≡ 1 → q ≡ None
+  pub usage_only : (q : Option Request) → Goes before now (course_by q) status → status ≡ 1 → q ≡ None
   usage_only None g e = refl
   usage_only (Some (EvalOf name turns)) g e = absurd (not_usage (eval_course name turns) (eval-bounds name turns) g e)
-  usage_only (Some (GoOf name machine script budget)) g e = absurd (not_usage (go_course name machine script budget) (go-bounds name machine script budget) g e)
+  usage_only (Some (GoOf name machine run)) g e = absurd (not_usage (go_course name machine run) (go-bounds name machine run) g e)
+  usage_only (Some (CompileOf name machine out)) g e = absurd (not_usage (compile_course name machine out) (compile-bounds name machine out) g e)
+  usage_only (Some (RunOf name run)) g e = absurd (not_usage (run_course name run) (run-bounds name run) g e)
+  usage_only (Some (CheckOf name)) g e = absurd (not_usage (check_course name) (check-bounds name) g e)
 
-  pub usage_else : (q : Option Request) → Goes told before now (course_by q) status → q ≡ None → IsUsage before now status
-  usage_else q g e = refused_at_once told before now usage status (subst (λ r. Goes told before now (course_by r) status) e g)
+  pub usage_else : (q : Option Request) → Goes before now (course_by q) status → q ≡ None → IsUsage before now status
+  usage_else q g e = refused_at_once before now usage status (subst (λ r. Goes before now (course_by r) status) e g)

@@ -6,15 +6,16 @@ use Rattle.timing_script.specs.declared.script.Script.{Script}
 use Rattle.unit_law.specs.State.{Program}
 use Rattle.unit_law.specs.Determinate.{pass_time}
 use Rattle.src_names.specs.RProgram.{RProgram}
-use Rattle.src_names.specs.Right.{IsRight}
 use Rattle.src_meaning.specs.declared.evaluate.End.TheVariants.{Done}
 use Rattle.src_meaning.specs.Meaning.{meaning}
-use Rattle.plain_image.specs.Compiled.{IsCompiled}
+use Rattle.compiled_image.specs.Compiled.{IsCompiled}
+use Rattle.run_text.specs.declared.kind.UnitKind.{UnitKind}
 use Rattle.run_text.specs.RunText.{IsRunText}
 use Rattle.bm_course.specs.Course.{Output}
 
--- On a lawful machine, for a program that is right (as those that are read are): where the source is done within n turns, and the budget is
--- n + 1 passes over the blocks or more, the text of the run has the status of an end.
+-- On a lawful machine: where the source is done within n turns, and the budget is n + 1 passes over the blocks or more, the text of the run
+-- has the status of an end.
 abbrev pub EnoughTicksEndRuns : Type 0
-EnoughTicksEndRuns = (machine : Machine) (p : RProgram) (m : Program) (script : Script) (budget n : ℕ) (text : Output) → IsMachine machine.processors machine.times → IsRight p → IsCompiled machine p m → IsRunText m script budget text
+EnoughTicksEndRuns = (machine : Machine) (p : RProgram) (m : Program) (kind : UnitKind) (script : Script) (budget n : ℕ) (text : Output)
+    → IsMachine machine → IsCompiled machine p m → IsRunText m kind script budget text
     → (meaning p (initial p.names) n).end ≡ Done → (n + 1) * pass_time m ≤ budget → text.status ≡ 0

@@ -6,8 +6,10 @@ ghost use Rattle.bm_course.specs.Laws.{HasEnd, IsDetermined};
 ghost use Rattle.bmimd_top.specs.Command.{course_of};
 ghost use Rattle.bmimd_top.specs.Enough.{EnoughTicksEndRuns};
 
+use bm_base::laws_of_memories;
 use bm_inputs::{inputs_are_right, inputs_have_one_step, inputs_settle};
-use plain_image::straight_programs_have_images;
+use compiled_image::{programs_have_images, programs_have_summaries};
+use image_inputs::{images_have_one_step, images_settle, loaded_images_are_images};
 use run_text::{bounded_runs_end, runs_have_one_text, runs_have_some_text};
 
 /// After the same contents, what words ask for comes to at most one step.
@@ -15,6 +17,10 @@ pub fn words_have_one_step()
     ensures { (words : List (List ℕ)) → IsDetermined (course_of words) }
 {
     inputs_have_one_step();
+    inputs_are_right();
+    images_have_one_step();
+    programs_have_images();
+    programs_have_summaries();
     runs_have_one_text();
 }
 
@@ -24,7 +30,10 @@ pub fn words_have_an_end()
 {
     inputs_settle();
     inputs_are_right();
-    straight_programs_have_images();
+    images_settle();
+    loaded_images_are_images();
+    programs_have_images();
+    programs_have_summaries();
     runs_have_some_text();
 }
 
@@ -33,6 +42,7 @@ pub fn words_have_an_end()
 pub fn enough_ticks_end_a_run()
     ensures { EnoughTicksEndRuns }
 {
-    straight_programs_have_images();
+    laws_of_memories();
+    programs_have_images();
     bounded_runs_end();
 }

@@ -1,3 +1,6 @@
 pub mod Producers
+pub mod Links
+pub mod Found
+pub mod Walk
 pub mod Laws
 pub mod Examples

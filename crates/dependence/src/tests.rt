@@ -1,4 +1,6 @@
 // Producers of small blocks, worked by hand.
+ghost use Rattle.std.specs.Prelude.{◌≡◌, IfOk};
+
 use super::*;
 use bm_base::{Bin, Un};
 use std::alloc::{AllocError, Global};
@@ -37,6 +39,20 @@ fn print(value: u8) -> Tuple {
     Tuple::Print { value }
 }
 
+// The block of the tuples.
+fn block_of(alloc: Global, tuples: &[Tuple]) -> Result<Block, AllocError>
+    ensures { IfOk result (λ block. block.tuples ≡ tuples.now) }
+{
+    let mut list = Tuples::new(alloc);
+    for tuple in tuples {
+        list.push(*tuple)?;
+    }
+    Ok(Block {
+        tuples: list,
+        next: Next::Halt,
+    })
+}
+
 // Whether the tuples have just these producers, and as many pairs.
 fn has_producers(
     alloc: Global,
@@ -47,14 +63,7 @@ fn has_producers(
     if tuples.len() > 128 || tuples.len() != want.len() {
         return Ok(false);
     }
-    let mut list = Tuples::new(alloc);
-    for tuple in tuples {
-        list.push(*tuple)?;
-    }
-    let block = Block {
-        tuples: list,
-        next: Next::Halt,
-    };
+    let block = block_of(alloc, tuples)?;
     let deps = conflicts(alloc, &block)?;
     for (i, row) in want.iter().enumerate() {
         if deps.producers(i as u8) != *row {
@@ -167,5 +176,29 @@ fn a_long_row_is_kept(rt: HostRuntime) -> Result<(), Fail> {
         &all,
     ];
     assert!(rt; has_producers(rt.alloc(), &prints, &rows, 66)?);
+    Ok(())
+}
+
+#[test]
+fn tuples_are_linked_to_the_last_that_touches_the_same(rt: HostRuntime) -> Result<(), Fail> {
+    // x = 2 + 3; print x;
+    let tuples = [word(2), word(3), sum(0, 1), store(0, 2), load(0), print(4)];
+    let block = block_of(rt.alloc(), &tuples)?;
+    let deps = conflicts(rt.alloc(), &block)?;
+    let want: [u8; 6] = [255, 255, 255, 255, 3, 255];
+    assert_eq!(rt; deps.links(), want.as_slice());
+    Ok(())
+}
+
+#[test]
+fn each_of_128_stores_to_one_variable_has_all_before_it(rt: HostRuntime) -> Result<(), Fail> {
+    let stores = [store(0, 0); 128];
+    let block = block_of(rt.alloc(), &stores)?;
+    let deps = conflicts(rt.alloc(), &block)?;
+    assert_eq!(rt; deps.len(), 128);
+    for i in 0..deps.len() as u8 {
+        assert_eq!(rt; deps.producers(i).len(), i as usize);
+    }
+    assert_eq!(rt; deps.links().last(), Some(&126));
     Ok(())
 }

@@ -1,10 +1,9 @@
 // Lines, and the streams and the queue that they give.
-ghost use Rattle.std.specs.Prelude.{◌≡◌, ◌++◌, ◌∷◌, [], IfOk, OnOk, OnErr};
+ghost use Rattle.std.specs.Prelude.{◌≡◌, ◌++◌, ◌∷◌, [], ◌-◌, ◌<◌, IfOk, OnOk, OnErr, length, take, slice_set};
 ghost use Rattle.line_model.specs.Streams.{stream, masks, item_for};
 
-use bm_base::Mask;
+use bm_base::{Mask, Sequence};
 use std::alloc::{AllocError, Global};
-use std::marker::Model;
 
 /// One item of a line.
 #[derive(Clone, Copy, Debug, PartialEq, Eq)]
@@ -26,46 +25,7 @@ pub enum StreamItem {
 }
 
 /// The items of a line. Contracts see the list.
-#[derive(Drop)]
-pub struct Items {
-    list: Vec<Item>,
-}
-
-impl Model for Items {
-    ghost use Rattle.std.specs.Prelude.{List};
-    ghost use Rattle.line_model.specs.declared.line.Item.{Item};
-
-    ghost Value = { List Item };
-
-    ghost view = { λ t. t.list.items };
-}
-
-impl Items {
-    /// No items. It takes no memory.
-    pub fn new(alloc: Global) -> Items
-        ensures { result ≡ [] }
-    {
-        Items {
-            list: Vec::new(alloc),
-        }
-    }
-
-    /// Puts an item at the end; want of memory changes nothing.
-    pub fn push(&mut self, item: Item) -> Result<(), AllocError>
-        ensures ok { OnOk result (self.new ≡ self.old ++ item ∷ []) }
-        ensures err { OnErr result (self.new ≡ self.old) }
-    {
-        self.list.push(item)?;
-        Ok(())
-    }
-
-    /// The items in order.
-    pub fn items(&self) -> &[Item]
-        ensures { result.now ≡ self.now }
-    {
-        &self.list
-    }
-}
+pub type Items = Sequence<Item>;
 
 /// A line: the runs and barriers of one block in order.
 #[derive(Drop)]

@@ -44,7 +44,7 @@ which a x = grind arith
 nat_eq_same : (x y : ℕ) → nat_eq x y ≡ true → x ≡ y
 nat_eq_same x y h = eqb-true x y h
 
-any_from : (a : ℕ) (xs : List ℕ) → Contains xs a → list_any (nat_eq a) xs ≡ true
+pub any_from : (a : ℕ) (xs : List ℕ) → Contains xs a → list_any (nat_eq a) xs ≡ true
 any_from a xs h = list_any-from_Contains nat_eq_equiv a xs h
 
 one_of : (xs : List ℕ) (a : ℕ) → (fold max a xs ≡ a) ⊎ ((k : ℕ) × (k < length xs) × (fold max a xs ≡ get_or xs k 0))
@@ -134,7 +134,7 @@ height_is job sound t lt =
     let high : greatest (map (height job) (consumers job t)) ≤ greatest (map (height_within job (n - 1)) (consumers job t)) = values_least (height job) (consumers job t) (greatest (map (height_within job (n - 1)) (consumers job t))) (λ c has. let r = consumer_from job t c has in let above : t < c = sound.earlier c t r.0 r.1 in let here : height_within job n c ≤ height_within job (n - 1) c = saturated job sound n (n - 1) c r.0 (omega arith) in let there = of_element (height_within job (n - 1)) (consumers job t) c has in omega arith) in
     omega (arith, whole, low, high)
 
-map_same : (f g : ℕ → ℕ) (xs : List ℕ) → ((x : ℕ) → Contains xs x → f x ≡ g x) → map f xs ≡ map g xs
+pub map_same : (f g : ℕ → ℕ) (xs : List ℕ) → ((x : ℕ) → Contains xs x → f x ≡ g x) → map f xs ≡ map g xs
 map_same f g [] h = refl
 map_same f g (x ∷ xs) h = ap (λ y. y ∷ map f xs) (h x (zero, omega arith, refl)) ∙ ap (λ ys. g x ∷ ys) (map_same f g xs (λ a has. h a (Contains-append_right (x ∷ []) xs a has)))
 

@@ -7,3 +7,7 @@ pub mod Placing
 pub mod StepFacts
 pub mod Turn
 pub mod Whole
+pub mod Exists
+pub mod Blocks
+pub mod Starts
+pub mod TableFacts

@@ -1,12 +1,15 @@
 -- Steps of loops that look for the least or the best.
-use Rattle.std.proofs.Common.{◌≡◌, ℕ, ◌+◌, ◌<◌, ◌⊎◌, min, sym, ap, ◌∙◌, inl, inr, arith}
-use Rattle.list_schedule.specs.Steps.{IsLeast}
+use Rattle.std.proofs.Common.{◌≡◌, ℕ, ◌+◌, ◌<◌, ◌⊎◌, min, sym, ap, ◌∙◌, inl, inr, arith, refl, le_refl}
+use Rattle.list_schedule.specs.Steps.{never, IsLeast}
 
 which : (a b : ℕ) → (min a b ≡ a) ⊎ (min a b ≡ b)
 which a b = grind arith
 
 last_or : (k n : ℕ) → k < n + 1 → (k < n) ⊎ (k ≡ n)
 last_or k n h = grind arith
+
+pub least_none : (f : ℕ → ℕ) → IsLeast f 0 never
+least_none f = record { some = inl refl; all = λ k lt. absurd (omega arith); most = le_refl never }
 
 pub least_more : (f : ℕ → ℕ) (n least v now : ℕ) → IsLeast f n least → v ≡ f n → now ≡ min least v → IsLeast f (n + 1) now
 least_more f n least v now g is e = record {

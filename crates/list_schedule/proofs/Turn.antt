@@ -126,10 +126,10 @@ module _ (processors : ℕ) (times : List ℕ) (deps : List (List ℕ)) (starts 
     z_low : z + 1000 * unplaced starts (length times) ≤ 1000 * length times
     z_low = omega (arith, o_low, d_low, g.clock, e)
 
-    z_few : z ≤ 128000
+    pub z_few : z ≤ 128000
     z_few = omega (arith, z_low, g.begins.few)
 
-    z_never : z < never
+    pub z_never : z < never
     z_never = omega (arith, z_few)
 
     ahead : Partial (job_with processors times deps) (plan_with starts places) never z
@@ -191,6 +191,9 @@ module _ (processors : ℕ) (times : List ℕ) (deps : List (List ℕ)) (starts 
     pub record Turned (t p : ℕ) : Type 0 where
       pub goes_on : Making processors times deps (set starts t z) (set places t p) z
       pub fewer_open : unplaced (set starts t z) (length times) < unplaced starts (length times)
+      pub is_tuple : t < length times
+      pub was_free : slice_index starts t ≡ never
+      pub of_machine : p < processors
 
     pub turned : (heights : List ℕ) → ((u : ℕ) → u < length times → slice_index heights u ≡ height (job_with processors times deps) u) → (first best : Best) (row : List ℕ) (t p : ℕ) → IsBest (open_from times deps starts) (slice_index heights) z (length times) first → t ≡ index_of first → row ≡ slice_index_or deps t [] → IsBest (last_finish times starts places) (λ q. count_by (λ a. nat_eq (slice_index places a) q) row) z processors best → p ≡ index_of best → Turned t p
     turned heights tall Nothing best row t p first et is idle ep = absurd (cc (open_found (slice_index heights) Nothing first))
@@ -199,7 +202,7 @@ module _ (processors : ℕ) (times : List ℕ) (deps : List (List ℕ)) (starts 
         let P : List ℕ → Type 0 = λ r. IsBest (last_finish times starts places) (λ q. count_by (λ a. nat_eq (slice_index places a) q) r) z processors (At y n) in
         let own : row ≡ slice_index_or deps x [] = is ∙ ap (λ u. slice_index_or deps u []) et in
         let best : IsBest (last_finish times starts places) (λ q. count_by (λ a. nat_eq (slice_index places a) q) (slice_index_or deps x [])) z processors (At y n) = subst P own idle in
-        let there : Turned x y = record { goes_on = made heights tall x s y n first best; fewer_open = falls heights tall x s y n first best } in
+        let there : Turned x y = record { goes_on = made heights tall x s y n first best; fewer_open = falls heights tall x s y n first best; is_tuple = first.0; was_free = t_never heights tall x s y n first best; of_machine = best.0 } in
         let Q : ℕ → Type 0 = λ u. Turned u y in
         let R : ℕ → Type 0 = λ q. Turned t q in
         subst R (sym ep) (subst Q (sym et) there)

@@ -1,5 +1,5 @@
 -- What is known of the job of a block.
-use Rattle.std.proofs.Common.{◌≡◌, ℕ, zero, suc, ◌+◌, ◌<◌, ◌≤◌, ◌⊎◌, List, [], ◌∷◌, ◌++◌, length, map, slice_index, slice_index_or, Contains, take, drop, ◌*◌, ◌-◌, refl, sym, ap, subst, ◌∙◌, inl, inr, arith}
+use Rattle.std.proofs.Common.{◌≡◌, ℕ, zero, suc, ◌+◌, ◌<◌, ◌≤◌, ◌⊎◌, List, [], ◌∷◌, ◌++◌, length, map, slice_index, slice_index_or, Contains, ◌*◌, ◌-◌, sym, ap, subst, ◌∙◌, inl, inr, arith}
 use Rattle.std.specs.List.{range_with_len}
 use Rattle.std.proofs.lemmas.List.{length-map, get_or_past}
 use Rattle.std.proofs.lemmas.List.FromFn.{length-map-range_with_len, get_or-map-range_with_len}
@@ -11,8 +11,7 @@ use Rattle.dependence.specs.Producers.{in_conflict, producers_of}
 use Rattle.dependence.proofs.Kept.{kept_from}
 use Rattle.dependence.proofs.Rows.{row_at, as_many}
 use Rattle.list_schedule.specs.Job.{Job, IsJob, AreTimes, job_of, height}
-use Rattle.list_schedule.specs.Greedy.{IsGreedy}
-use Rattle.list_schedule.specs.Steps.{job_with, plan_with}
+use Rattle.list_schedule.specs.Steps.{job_with}
 
 pub times_more : (xs : List ℕ) (x : ℕ) → AreTimes xs → 1 ≤ x → x ≤ 1000 → AreTimes (xs ++ x ∷ [])
 times_more [] x h low high zero lt = (low, high)
@@ -58,23 +57,6 @@ heights_many job heights are = ap length are ∙ length-map-range_with_len (heig
 
 pub height_at : (job : Job) (heights : List ℕ) → heights ≡ map (height job) (range_with_len 0 (length job.times)) → (u : ℕ) → u < length job.times → slice_index heights u ≡ height job u
 height_at job heights are u lt = ap (λ hs. slice_index hs u) are ∙ get_or-map-range_with_len (height job) 0 (length job.times) u u 0 lt (omega arith)
-
--- a list that was written whole
-whole : (new old : List ℕ) → length old ≡ length new → take (length new) (new ++ drop (length new) old) ≡ new
-whole [] [] e = refl
-whole [] (x ∷ xs) e = absurd (omega (arith, e))
-whole (y ∷ ys) [] e = absurd (omega (arith, e))
-whole (y ∷ ys) (x ∷ xs) e = ap (λ l. y ∷ l) (whole ys xs (omega (arith, e)))
-
-pub written : (n : ℕ) (new old : List ℕ) → length old ≡ n → length new ≡ n → take n (new ++ drop (length new) old) ≡ new
-written n new old e f = ap (λ k. take k (new ++ drop (length new) old)) (sym f) ∙ whole new old (e ∙ sym f)
-
-pub greedy_for : (machine : Machine) (ts : List Tuple) (times : List ℕ) (deps : List (List ℕ)) (p : ℕ) (new_starts new_places starts places : List ℕ) → Made machine ts times deps → p ≡ machine.processors → IsGreedy (job_with p times deps) (plan_with new_starts new_places) → starts ≡ new_starts → places ≡ new_places → IsGreedy (job_of machine ts) (plan_with starts places)
-greedy_for machine ts times deps p new_starts new_places starts places m e g es ep =
-    let P : Job → Type 0 = λ j. IsGreedy j (plan_with starts places) in
-    let Q : List ℕ → Type 0 = λ xs. IsGreedy (job_with p times deps) (plan_with new_starts xs) in
-    let R : List ℕ → Type 0 = λ xs. IsGreedy (job_with p times deps) (plan_with xs places) in
-    subst P (ap (λ q. job_with q times deps) e ∙ m.job) (subst R (sym es) (subst Q (sym ep) g))
 
 pub is_job : (machine : Machine) (ts : List Tuple) (times : List ℕ) (deps : List (List ℕ)) → Made machine ts times deps → 1 ≤ machine.processors → IsJob (job_of machine ts)
 is_job machine ts times deps m some = let P : Job → Type 0 = IsJob in subst P m.job (m.sound machine.processors some)

@@ -50,19 +50,13 @@ pub record IsGreedy (job : Job) (plan : Plan) : Type 0 where
   -- each tuple is ready at its start
   pub ready : (t : ℕ) → t < tuples job → IsReady job plan t (start plan t)
   -- where a tuple is ready and has not started, each processor has a tuple that runs, ..
-  pub busy : (t s : ℕ) → t < tuples job → s < start plan t → IsReady job plan t s → (p : ℕ) → p < job.processors → (u : ℕ) × Runs job plan u s × (place plan u ≡ p)
+  pub busy : (t s : ℕ) → t < tuples job → s < start plan t → IsReady job plan t s → (p : ℕ) → p < job.processors → (u : ℕ)
+      × Runs job plan u s × (place plan u ≡ p)
   -- .. and each tuple that starts at that tick is taken before it
-  pub taken : (t s : ℕ) → t < tuples job → s < start plan t → IsReady job plan t s → (u : ℕ) → u < tuples job → start plan u ≡ s → ComesBefore job u t
+  pub taken : (t s : ℕ) → t < tuples job → s < start plan t → IsReady job plan t s → (u : ℕ) → u < tuples job → start plan u ≡ s
+      → ComesBefore job u t
   -- a tuple's processor is free for it, and of the free ones it has the most producers, the lowest on a tie
   pub free : (t : ℕ) → t < tuples job → IsFree job plan t (place plan t)
-  pub best : (t p : ℕ) → t < tuples job → p < job.processors → IsFree job plan t p → (holds job plan t p < holds job plan t (place plan t)) ⊎ ((holds job plan t p ≡ holds job plan t (place plan t)) × (place plan t ≤ p))
-
--- a plan with its last finish, the sum of the times and the greatest height
-pub record Numbered : Type 0 where
-  pub plan : Plan
-  pub makespan : ℕ
-  pub work : ℕ
-  pub longest : ℕ
-
-abbrev pub numbered : List ℕ → List ℕ → ℕ → ℕ → ℕ → Numbered
-numbered starts places makespan work longest = record { plan = record { starts = starts; places = places }; makespan = makespan; work = work; longest = longest }
+  pub best : (t p : ℕ) → t < tuples job → p < job.processors → IsFree job plan t p
+      → (holds job plan t p < holds job plan t (place plan t))
+      ⊎ ((holds job plan t p ≡ holds job plan t (place plan t)) × (place plan t ≤ p))

@@ -1,5 +1,6 @@
 -- What is to be scheduled: processors, and tuples with their times and producers.
-use Rattle.std.specs.Prelude.{◌≡◌, ℕ, zero, suc, ◌+◌, ◌<◌, ◌≤◌, ◌⊎◌, max, List, [], map, fold, filter, sum, length, nat_eq, slice_index, slice_index_or, Contains}
+use Rattle.std.specs.Prelude.{◌≡◌, ℕ, zero, suc, ◌+◌, ◌<◌, ◌≤◌, ◌⊎◌, max, List, [], map, fold, filter, sum, length, nat_eq, slice_index}
+use Rattle.std.specs.Prelude.{slice_index_or, Contains}
 use Rattle.std.specs.List.{range_with_len, list_any}
 use Rattle.bm_base.specs.Machine.{Machine}
 use Rattle.bm_base.specs.Spec.{time_of}
@@ -15,7 +16,11 @@ pub record Job : Type 0 where
 
 -- the job of a block on a machine; all times are greatest times
 abbrev pub job_of : Machine → List Tuple → Job
-job_of machine ts = record { processors = machine.processors; times = map (λ t. (time_of machine (class_of t)).most) ts; producers = producers_of ts }
+job_of machine ts = record {
+  processors = machine.processors;
+  times = map (λ t. (time_of machine (class_of t)).most) ts;
+  producers = producers_of ts;
+}
 
 -- how many tuples, a tuple's time, and its producers
 abbrev pub tuples : Job → ℕ

@@ -1,5 +1,6 @@
 pub mod Job
 pub mod Greedy
+pub mod Schedule
 pub mod Steps
 pub mod Laws
 pub mod Examples

@@ -15,7 +15,7 @@ pub struct Schedule {
 }
 
 impl Model for Schedule {
-    ghost use Rattle.list_schedule.specs.Greedy.{Numbered, numbered};
+    ghost use Rattle.list_schedule.specs.Schedule.{Numbered, numbered};
 
     ghost Value = { Numbered };
 
@@ -23,7 +23,7 @@ impl Model for Schedule {
 }
 
 impl Schedule {
-    /// The tick at which tuple t starts.
+    /// The tick at which tuple t starts, counted from 0; t is the number of a tuple of the block.
     pub fn start(&self, t: u8) -> u32
         requires { t < length self.now.plan.starts }
         ensures { result ≡ slice_index self.now.plan.starts t }
@@ -31,7 +31,7 @@ impl Schedule {
         self.starts[t as usize]
     }
 
-    /// The processor on which tuple t runs.
+    /// The processor on which tuple t runs, counted from 0; t is the number of a tuple of the block.
     pub fn processor(&self, t: u8) -> u8
         requires { t < length self.now.plan.places }
         ensures { result ≡ slice_index self.now.plan.places t }

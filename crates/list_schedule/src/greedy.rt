@@ -1,13 +1,12 @@
 // The greedy schedule of a block.
-ghost use Rattle.std.specs.Prelude.{◌≡◌, ◌+◌, ◌-◌, ◌*◌, ◌≤◌, IfOk, length};
-ghost use Rattle.dependence.specs.Producers.{producers_of};
-ghost use Rattle.list_schedule.specs.Job.{job_of, work, longest};
-ghost use Rattle.list_schedule.specs.Greedy.{IsGreedy, makespan};
+ghost use Rattle.std.specs.Prelude.{IfOk};
+ghost use Rattle.dependence.specs.Found.{AreDepsOf};
+ghost use Rattle.list_schedule.specs.Schedule.{IsScheduleOf};
 
 use crate::finished::Schedule;
 use crate::heights::{greatest_times, heights};
+use crate::job::{Draft, Job, ticks};
 use crate::place::place_all;
-use crate::steps::NEVER;
 use crate::totals::{greatest_of, last_of, sum_of};
 use bm_base::Spec;
 use dependence::Deps;
@@ -23,35 +22,27 @@ pub fn schedule(
     deps: &Deps,
     spec: &Spec,
 ) -> Result<Schedule, AllocError>
-    requires { deps.now ≡ producers_of block.now.tuples }
-    ensures greedy { IfOk result (λ s. IsGreedy (job_of spec.now block.now.tuples) s.plan) }
-    ensures makespan { IfOk result (λ s. s.makespan ≡ makespan (job_of spec.now block.now.tuples) s.plan) }
-    ensures work { IfOk result (λ s. s.work ≡ work (job_of spec.now block.now.tuples)) }
-    ensures longest { IfOk result (λ s. s.longest ≡ longest (job_of spec.now block.now.tuples)) }
-    ensures bound { IfOk result (λ s. spec.now.processors * s.makespan ≤ s.work + (spec.now.processors - 1) * s.longest) }
+    requires { AreDepsOf deps.now block.now.tuples }
+    ensures { IfOk result (λ s. IsScheduleOf spec.now block.now.tuples s) }
 {
     // Conflicts are those of at most 128 tuples.
     prove!(deps.len() <= 128);
-    let all_times = greatest_times(alloc, block.tuples.items(), spec)?;
-    let times: &[u32] = &all_times;
-    let all_heights = heights(alloc, times, deps)?;
-    let heights: &[u32] = &all_heights;
-    let mut starts = vec![in alloc; NEVER; times.len()]?;
-    let mut places = vec![in alloc; 0u8; times.len()]?;
-    place_all(
+    let times = greatest_times(alloc, block.tuples.items(), spec)?;
+    let job = Job {
+        processors: spec.processors(),
         times,
         deps,
-        heights,
-        spec.processors(),
-        &mut starts,
-        &mut places,
-    );
-    let makespan = last_of(times, &starts);
-    let work = sum_of(times);
-    let longest = greatest_of(heights);
+    };
+    let heights = heights(alloc, &job)?;
+    let mut draft = Draft::new(alloc, job.times.len(), job.processors)?;
+    place_all(&job, &heights, &mut draft);
+    let starts = ticks(alloc, &draft.starts)?;
+    let makespan = last_of(&job.times, &starts);
+    let work = sum_of(&job.times);
+    let longest = greatest_of(&heights);
     Ok(Schedule {
         starts,
-        places,
+        places: draft.places,
         makespan,
         work,
         longest,

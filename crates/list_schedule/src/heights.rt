@@ -5,6 +5,7 @@ ghost use Rattle.bm_base.specs.Spec.{time_of};
 ghost use Rattle.tuple_ir.specs.Kinds.{class_of};
 ghost use Rattle.list_schedule.specs.Job.{IsJob, AreTimes, greatest, height};
 
+use crate::job::Job;
 use bm_base::Spec;
 use dependence::Deps;
 use std::alloc::{AllocError, Global};
@@ -36,8 +37,10 @@ pub(crate) fn larger(a: u32, b: u32) -> u32
 /// The greatest of the numbers that stand at the consumers of tuple t, 0 without one.
 fn above(deps: &Deps, heights: &[u32], t: u8) -> u32
     requires few { length heights.now ≤ 128 }
-    requires same { length deps.now ≡ length heights.now }
-    ensures { result ≡ greatest (map (slice_index heights.now) (filter (λ b. list_any (nat_eq t) (slice_index_or deps.now b [])) (range_with_len 0 (length heights.now)))) }
+    requires same { length deps.now.producers ≡ length heights.now }
+    ensures { result ≡ greatest
+        (map (slice_index heights.now)
+        (filter (λ b. list_any (nat_eq t) (slice_index_or deps.now.producers b [])) (range_with_len 0 (length heights.now)))) }
 {
     let mut most = 0;
     for b in 0..heights.len() as u8 {
@@ -49,16 +52,22 @@ fn above(deps: &Deps, heights: &[u32], t: u8) -> u32
 }
 
 /// The height of each tuple, in ticks.
-pub(crate) fn heights(alloc: Global, times: &[u32], deps: &Deps) -> Result<Vec<u32>, AllocError>
-    requires few { length times.now ≤ 128 }
-    requires same { length deps.now ≡ length times.now }
-    requires short { (t : ℕ) → slice_index times.now t ≤ 1000 }
-    requires sound { (p : ℕ) → 1 ≤ p → IsJob (record { processors = p; times = times.now; producers = deps.now }) }
-    ensures { IfOk result (λ heights. (p : ℕ) → 1 ≤ p → heights.items ≡ map (height (record { processors = p; times = times.now; producers = deps.now })) (range_with_len 0 (length times.now))) }
+pub(crate) fn heights(alloc: Global, job: &Job<'_>) -> Result<Vec<u32>, AllocError>
+    requires few { length job.now.times.items ≤ 128 }
+    requires same { length job.now.deps.now.producers ≡ length job.now.times.items }
+    requires short { (t : ℕ) → slice_index job.now.times.items t ≤ 1000 }
+    requires sound { (p : ℕ) → 1 ≤ p
+        → IsJob (record { processors = p; times = job.now.times.items; producers = job.now.deps.now.producers }) }
+    ensures { IfOk result (λ heights. (p : ℕ) → 1 ≤ p → heights.items
+        ≡ map (height (record {
+          processors = p;
+          times = job.now.times.items;
+          producers = job.now.deps.now.producers;
+        })) (range_with_len 0 (length job.now.times.items))) }
 {
-    let mut heights = vec![in alloc; 0u32; times.len()]?;
-    for t in (0..times.len() as u8).rev() {
-        heights[t as usize] = times[t as usize] + above(deps, &heights, t);
+    let mut heights = vec![in alloc; 0u32; job.times.len()]?;
+    for t in (0..job.times.len() as u8).rev() {
+        heights[t as usize] = job.times[t as usize] + above(job.deps, &heights, t);
     }
     Ok(heights)
 }

@@ -1,14 +1,17 @@
 //! The greedy schedule of a block: when and where each of its tuples runs if all take their
 //! greatest times.
 //!
-//! `specs/Greedy.antt` has the test of a finished schedule, `specs/Laws.antt` what follows from it.
+//! `specs/Greedy.antt` has the test of a finished schedule, `specs/Schedule.antt` what the schedule of
+//! a block is, and `specs/Laws.antt` what follows.
 #![tactic(auto)]
 
 mod finished;
 mod greedy;
 mod heights;
+mod job;
 mod place;
 mod steps;
+mod tables;
 #[cfg(test)]
 mod tests;
 mod totals;
@@ -17,7 +20,7 @@ ghost use Rattle.std.specs.Prelude.{◌≡◌, ◌∷◌, [], map};
 ghost use Rattle.list_schedule.specs.Job.{height, work, longest};
 ghost use Rattle.list_schedule.specs.Greedy.{makespan};
 ghost use Rattle.list_schedule.specs.Examples.{sum_job, sum_plan};
-ghost use Rattle.list_schedule.specs.Laws.{TheGreedyScheduleIsOne, GrahamsBound};
+ghost use Rattle.list_schedule.specs.Laws.{TheGreedyScheduleIsOne, GrahamsBound, BlocksAreJobs, BlocksHaveOneSchedule};
 
 pub use finished::Schedule;
 pub use greedy::schedule;
@@ -27,6 +30,18 @@ pub use greedy::schedule;
 pub fn laws_of_schedules()
     ensures one { TheGreedyScheduleIsOne }
     ensures bound { GrahamsBound }
+{}
+
+/// A block of a lawful machine is a job: its times are a tick at least, and its producers are
+/// earlier tuples.
+pub fn jobs_of_blocks()
+    ensures { BlocksAreJobs }
+{}
+
+/// At most 128 tuples have a greedy schedule on a lawful machine, and what is told of a schedule
+/// fixes it.
+pub fn blocks_have_one_schedule()
+    ensures { BlocksHaveOneSchedule }
 {}
 
 /// The numbers of the schedule of `x = 2 + 3; print x;` on two processors with the default times.

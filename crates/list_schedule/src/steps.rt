@@ -1,66 +1,30 @@
 // What is known of a schedule in the making: which processor is idle, which tuple is ready.
-ghost use Rattle.std.specs.Prelude.{◌≡◌, true, ℕ, ◌+◌, ◌<◌, min, length, All, slice_index, count_by, nat_eq};
-ghost use Rattle.list_schedule.specs.Steps.{finish_of, finish_on, last_finish, ready_from, open_from, AreStarts, IsLeast, IsBest, is_found, index_of};
+ghost use Rattle.std.specs.Prelude.{◌≡◌, true, ℕ, ◌+◌, ◌<◌, ◌≤◌, min, max, length, All, slice_index, count_by, nat_eq};
+ghost use Rattle.list_schedule.specs.Steps.{never, Tells, starts_of, AreTicks, last_finish, open_from, AreTables, IsLeast, IsBest};
+ghost use Rattle.list_schedule.specs.Steps.{is_found, index_of};
 
-use crate::heights::larger;
-use dependence::Deps;
-
-/// The start of a tuple that has no place yet.
-pub(crate) const NEVER: u32 = u32::MAX;
-
-/// A tuple's finish, `NEVER` where it has no place.
-fn finish(times: &[u32], starts: &[u32], u: u8) -> u32
-    requires place { u < length times.now }
-    requires starts { AreStarts times.now starts.now }
-    ensures { result ≡ finish_of times.now starts.now u }
-{
-    let start = starts[u as usize];
-    if start < NEVER {
-        start + times[u as usize]
-    } else {
-        NEVER
-    }
-}
-
-/// A tuple's finish if it has a place on processor p, else 0.
-fn finish_at(times: &[u32], starts: &[u32], places: &[u8], p: u8, u: u8) -> u32
-    requires place { u < length times.now }
-    requires places { length places.now ≡ length times.now }
-    requires starts { AreStarts times.now starts.now }
-    ensures { result ≡ finish_on times.now starts.now places.now p u }
-{
-    let start = starts[u as usize];
-    if start < NEVER && places[u as usize] == p {
-        start + times[u as usize]
-    } else {
-        0
-    }
-}
+use crate::job::{Draft, Job, NEVER};
 
 /// The tick from which on processor p is idle.
-pub(crate) fn idle_from(times: &[u32], starts: &[u32], places: &[u8], p: u8) -> u32
-    requires places { length places.now ≡ length times.now }
-    requires starts { AreStarts times.now starts.now }
-    ensures { result ≡ last_finish times.now starts.now places.now p }
+fn idle_from(job: &Job<'_>, draft: &Draft, p: u8) -> u32
+    requires processor { p < job.now.processors }
+    requires tables { AreTables job.now.processors job.now.times.items job.now.deps.now.producers draft.now }
+    ensures { result ≡ last_finish job.now.times.items (starts_of draft.now) draft.now.places.items p }
 {
-    let mut last = 0;
-    for u in 0..times.len() as u8 {
-        last = larger(last, finish_at(times, starts, places, p, u));
-    }
-    last
+    draft.idles[p as usize]
 }
 
-/// The tick from which on a tuple with these producers is ready, `NEVER` where one has no place.
-pub(crate) fn ready_at(times: &[u32], starts: &[u32], producers: &[u8]) -> u32
-    requires tuples { All (λ a. a < length times.now) producers.now }
-    requires starts { AreStarts times.now starts.now }
-    ensures { result ≡ ready_from times.now starts.now producers.now }
+/// The earlier of two ticks, of which each may be none.
+fn earlier(a: Option<u32>, b: Option<u32>) -> Option<u32>
+    ensures { (m n : ℕ) → Tells a m → Tells b n → Tells result (min m n) }
 {
-    let mut last = 0;
-    for a in producers {
-        last = larger(last, finish(times, starts, *a));
+    match a {
+        Some(x) => match b {
+            Some(y) => Some(smaller(x, y)),
+            None => Some(x),
+        },
+        None => b,
     }
-    last
 }
 
 /// The smaller of two numbers.
@@ -71,41 +35,45 @@ fn smaller(a: u32, b: u32) -> u32
 }
 
 /// The least tick from which on some processor is idle.
-pub(crate) fn some_idle_from(times: &[u32], starts: &[u32], places: &[u8], processors: u8) -> u32
-    requires places { length places.now ≡ length times.now }
-    requires starts { AreStarts times.now starts.now }
-    ensures { IsLeast (last_finish times.now starts.now places.now) processors result }
+pub(crate) fn some_idle_from(job: &Job<'_>, draft: &Draft) -> u32
+    requires some { 1 ≤ job.now.processors }
+    requires tables { AreTables job.now.processors job.now.times.items job.now.deps.now.producers draft.now }
+    ensures { IsLeast (last_finish job.now.times.items (starts_of draft.now) draft.now.places.items) job.now.processors result }
 {
-    let mut least = NEVER;
-    for p in 0..processors {
-        least = smaller(least, idle_from(times, starts, places, p));
+    let mut least = idle_from(job, draft, 0);
+    for p in 1..job.processors {
+        least = smaller(least, idle_from(job, draft, p));
     }
     least
 }
 
-/// The tick from which on tuple t may be placed, `NEVER` where it has a place already.
-fn open_at(times: &[u32], deps: &Deps, starts: &[u32], t: u8) -> u32
-    requires place { t < length times.now }
-    requires deps { length deps.now ≡ length times.now }
-    requires starts { AreStarts times.now starts.now }
-    ensures { result ≡ open_from times.now deps.now starts.now t }
+/// The tick, none where it is `NEVER`.
+fn told(tick: u32) -> Option<u32>
+    ensures { Tells result tick }
 {
-    if starts[t as usize] < NEVER {
-        NEVER
-    } else {
-        ready_at(times, starts, deps.producers(t))
-    }
+    if tick < NEVER { Some(tick) } else { None }
 }
 
-/// The least tick from which on some tuple may be placed, `NEVER` without one.
-pub(crate) fn some_open_from(times: &[u32], deps: &Deps, starts: &[u32]) -> u32
-    requires deps { length deps.now ≡ length times.now }
-    requires starts { AreStarts times.now starts.now }
-    ensures { IsLeast (open_from times.now deps.now starts.now) (length times.now) result }
+/// The tick from which on tuple t may be placed, none where it has a place already or a producer
+/// has none.
+fn open_at(job: &Job<'_>, draft: &Draft, t: u8) -> Option<u32>
+    requires tuple { t < length job.now.times.items }
+    requires tables { AreTables job.now.processors job.now.times.items job.now.deps.now.producers draft.now }
+    ensures { Tells result (open_from job.now.times.items job.now.deps.now.producers (starts_of draft.now) t) }
 {
-    let mut least = NEVER;
-    for t in 0..times.len() as u8 {
-        least = smaller(least, open_at(times, deps, starts, t));
+    told(draft.opens[t as usize])
+}
+
+/// The least tick from which on some tuple may be placed, none without one.
+pub(crate) fn some_open_from(job: &Job<'_>, draft: &Draft) -> Option<u32>
+    requires few { length job.now.times.items ≤ 128 }
+    requires tables { AreTables job.now.processors job.now.times.items job.now.deps.now.producers draft.now }
+    ensures { (least : ℕ) × Tells result least
+        × IsLeast (open_from job.now.times.items job.now.deps.now.producers (starts_of draft.now)) (length job.now.times.items) least }
+{
+    let mut least = None;
+    for t in 0..job.times.len() as u8 {
+        least = earlier(least, open_at(job, draft, t));
     }
     least
 }
@@ -132,7 +100,8 @@ impl Best {
 
 /// The better of the best so far and number k, which counts from tick `late` on.
 fn better(best: Best, k: u8, late: u32, tick: u32, score: u32) -> Best
-    ensures { (lates scores : ℕ → ℕ) → lates k ≡ late → scores k ≡ score → IsBest lates scores tick k best → IsBest lates scores tick (k + 1) result }
+    ensures { (lates scores : ℕ → ℕ) → lates k ≡ late → scores k ≡ score → IsBest lates scores tick k best
+        → IsBest lates scores tick (k + 1) result }
 {
     if tick < late {
         return best;
@@ -149,41 +118,43 @@ fn better(best: Best, k: u8, late: u32, tick: u32, score: u32) -> Best
     }
 }
 
+/// The better of the best so far and number k, which counts from tick `late` on, if at all.
+fn better_if(best: Best, k: u8, late: Option<u32>, tick: u32, score: u32) -> Best
+    requires { tick < never }
+    ensures { (lates scores : ℕ → ℕ) → Tells late (lates k) → scores k ≡ score → IsBest lates scores tick k best
+        → IsBest lates scores tick (k + 1) result }
+{
+    match late {
+        Some(from) => better(best, k, from, tick, score),
+        None => best,
+    }
+}
+
 /// Of the tuples that may be placed at `tick` the one that is taken first.
-pub(crate) fn first_open(
-    times: &[u32],
-    deps: &Deps,
-    heights: &[u32],
-    starts: &[u32],
-    tick: u32,
-) -> Best
-    requires deps { length deps.now ≡ length times.now }
-    requires heights { length heights.now ≡ length times.now }
-    requires starts { AreStarts times.now starts.now }
-    ensures { IsBest (open_from times.now deps.now starts.now) (slice_index heights.now) tick (length times.now) result }
+pub(crate) fn first_open(job: &Job<'_>, heights: &[u32], draft: &Draft, tick: u32) -> Best
+    requires tick { tick < never }
+    requires few { length job.now.times.items ≤ 128 }
+    requires heights { length heights.now ≡ length job.now.times.items }
+    requires tables { AreTables job.now.processors job.now.times.items job.now.deps.now.producers draft.now }
+    ensures { IsBest (open_from job.now.times.items job.now.deps.now.producers (starts_of draft.now)) (slice_index heights.now) tick
+        (length job.now.times.items) result }
 {
     let mut best = Best::Nothing;
-    for t in 0..times.len() as u8 {
-        best = better(
-            best,
-            t,
-            open_at(times, deps, starts, t),
-            tick,
-            heights[t as usize],
-        );
+    for t in 0..job.times.len() as u8 {
+        best = better_if(best, t, open_at(job, draft, t), tick, heights[t as usize]);
     }
     best
 }
 
 /// How many of the producers have a place on processor p.
-fn count(places: &[u8], producers: &[u8], p: u8) -> u32
-    requires tuples { All (λ a. a < length places.now) producers.now }
+fn count(draft: &Draft, producers: &[u8], p: u8) -> u32
+    requires tuples { All (λ a. a < length draft.now.places.items) producers.now }
     requires few { length producers.now < 256 }
-    ensures { result ≡ count_by (λ a. nat_eq (slice_index places.now a) p) producers.now }
+    ensures { result ≡ count_by (λ a. nat_eq (slice_index draft.now.places.items a) p) producers.now }
 {
     let mut count = 0;
     for a in producers {
-        if places[*a as usize] == p {
+        if draft.places[*a as usize] == p {
             count += 1;
         }
     }
@@ -191,28 +162,21 @@ fn count(places: &[u8], producers: &[u8], p: u8) -> u32
 }
 
 /// Of the processors that are idle at `tick` the one that has most of the producers.
-pub(crate) fn best_idle(
-    times: &[u32],
-    starts: &[u32],
-    places: &[u8],
-    processors: u8,
-    producers: &[u8],
-    tick: u32,
-) -> Best
-    requires places { length places.now ≡ length times.now }
-    requires starts { AreStarts times.now starts.now }
-    requires tuples { All (λ a. a < length places.now) producers.now }
+pub(crate) fn best_idle(job: &Job<'_>, draft: &Draft, producers: &[u8], tick: u32) -> Best
+    requires tables { AreTables job.now.processors job.now.times.items job.now.deps.now.producers draft.now }
+    requires tuples { All (λ a. a < length draft.now.places.items) producers.now }
     requires few { length producers.now < 256 }
-    ensures { IsBest (last_finish times.now starts.now places.now) (λ p. count_by (λ a. nat_eq (slice_index places.now a) p) producers.now) tick processors result }
+    ensures { IsBest (last_finish job.now.times.items (starts_of draft.now) draft.now.places.items)
+        (λ p. count_by (λ a. nat_eq (slice_index draft.now.places.items a) p) producers.now) tick job.now.processors result }
 {
     let mut best = Best::Nothing;
-    for p in 0..processors {
+    for p in 0..job.processors {
         best = better(
             best,
             p,
-            idle_from(times, starts, places, p),
+            idle_from(job, draft, p),
             tick,
-            count(places, producers, p),
+            count(draft, producers, p),
         );
     }
     best

@@ -18,6 +18,7 @@ fn negation(a: u8) -> Tuple {
 fn machine(processors: u8) -> Option<Spec> {
     Spec::new(
         processors,
+        0,
         [
             Interval { least: 1, most: 1 },
             Interval { least: 1, most: 4 },

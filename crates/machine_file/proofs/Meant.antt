@@ -1,9 +1,10 @@
 -- What a machine file means: a machine, or a fault that is not want of memory.
-use Rattle.std.proofs.Common.{◌≡◌, ◌≢◌, ◌≤◌, inl, inr, ℕ, suc, ℤ, pos, negsuc, List, [], ◌∷◌, length, Bool, true, false, Option, Some, None, Ok, Err, refl, ap, subst, ◌∙◌, if◌then◌else◌}
+use Rattle.std.proofs.Common.{◌≡◌, ◌≢◌, ◌≤◌, inl, inr, ℕ, suc, ℤ, pos, negsuc, List, [], ◌∷◌, length, Bool, true, false, Option, Some, None, Ok, Err, refl, ap, subst, ◌∙◌, arith, if◌then◌else◌}
 use Rattle.std.specs.Prelude.{codes}
 use Rattle.std.specs.List.{AllByRecursion}
 use Rattle.std.specs.Str.{is_utf8}
 use Rattle.std.proofs.lemmas.Bool.Decides.{leb_tells}
+use Rattle.bm_base.specs.declared.limits.TheConstants.{MOST_PROCESSORS, MOST_DELAY, MOST_TICKS}
 use Rattle.bm_base.specs.declared.spec.Interval.{Interval}
 use Rattle.bm_base.specs.Machine.{Machine, IsTime, IsMachine}
 use Rattle.toml.specs.Data.{Data, Members, get_member, as_integer, as_table}
@@ -11,7 +12,7 @@ use Rattle.toml.specs.Parse.{parse_document}
 use Rattle.machine_file.specs.declared.fault.MachineFault.{MachineFault}
 use Rattle.machine_file.specs.declared.fault.MachineFault.TheVariants.{NotToml, Memory}
 use Rattle.machine_file.specs.Keys.{top_keys, class_keys, keys_of, first_unknown}
-use Rattle.machine_file.specs.MachineFile.{Read, ◌>>=◌, at_key, of_kind, in_range, pair_of, interval_of, in_times, intervals_of, without, processors_of, times_of, no_unknown, machine_of_document, machine_of_text, machine_of}
+use Rattle.machine_file.specs.MachineFile.{Read, ◌>>=◌, at_key, of_kind, in_range, pair_of, interval_of, in_times, intervals_of, without, processors_of, delay_at, delay_of, times_of, no_unknown, machine_of_document, machine_of_text, machine_of}
 
 -- a value of which this holds, or a fault that is not want of memory
 abbrev Means : {A : Type 0} → (A → Type 0) → Read A → Type 0
@@ -52,18 +53,18 @@ interval_means name o =
     (λ d _. then_means Any IsTime (of_kind name (pair_of d)) with_ends (kind_means name (pair_of d)) ends_mean)
   where
     with_least : ℤ × ℤ → ℕ → Read Interval
-    with_least ends least = in_range name least 1000 ends.1 >>= (λ most. Ok (record { least = least; most = most }))
+    with_least ends least = in_range name least MOST_TICKS ends.1 >>= (λ most. Ok (record { least = least; most = most }))
 
     with_ends : ℤ × ℤ → Read Interval
-    with_ends ends = in_range name 1 1000 ends.0 >>= with_least ends
+    with_ends ends = in_range name 1 MOST_TICKS ends.0 >>= with_least ends
 
-    least_means : (ends : ℤ × ℤ) (least : ℕ) → Within 1 1000 least → Means IsTime (with_least ends least)
+    least_means : (ends : ℤ × ℤ) (least : ℕ) → Within 1 MOST_TICKS least → Means IsTime (with_least ends least)
     least_means ends least h =
-        then_means (Within least 1000) IsTime (in_range name least 1000 ends.1) (λ most. Ok (record { least = least; most = most })) (range_means name least 1000 ends.1)
+        then_means (Within least MOST_TICKS) IsTime (in_range name least MOST_TICKS ends.1) (λ most. Ok (record { least = least; most = most })) (range_means name least MOST_TICKS ends.1)
         (λ most k. record { low = h.0; order = k.0; high = k.1 })
 
     ends_mean : (ends : ℤ × ℤ) → Any ends → Means IsTime (with_ends ends)
-    ends_mean ends _ = then_means (Within 1 1000) IsTime (in_range name 1 1000 ends.0) (with_least ends) (range_means name 1 1000 ends.0) (least_means ends)
+    ends_mean ends _ = then_means (Within 1 MOST_TICKS) IsTime (in_range name 1 MOST_TICKS ends.0) (with_least ends) (range_means name 1 MOST_TICKS ends.0) (least_means ends)
 
 abbrev AreTimes : ℕ → List Interval → Type 0
 AreTimes n ts = (length ts ≡ n) × AllByRecursion IsTime ts
@@ -79,12 +80,18 @@ without_means : (told : List ℕ → List ℕ) (o : Option (List ℕ)) → Means
 without_means told None = tt
 without_means told (Some key) = λ e. cc
 
-processors_mean : (document : Members) → Means (Within 1 64) (processors_of document)
+processors_mean : (document : Members) → Means (Within 1 MOST_PROCESSORS) (processors_of document)
 processors_mean document =
     let name : List ℕ = codes "processors" in
     let o : Option Data = get_member name document in
-    then_means Any (Within 1 64) (at_key name o) (λ found. of_kind name (as_integer found) >>= in_range name 1 64) (key_means name o)
-    (λ found _. then_means Any (Within 1 64) (of_kind name (as_integer found)) (in_range name 1 64) (kind_means name (as_integer found)) (λ v _. range_means name 1 64 v))
+    then_means Any (Within 1 MOST_PROCESSORS) (at_key name o) (λ found. of_kind name (as_integer found) >>= in_range name 1 MOST_PROCESSORS) (key_means name o)
+    (λ found _. then_means Any (Within 1 MOST_PROCESSORS) (of_kind name (as_integer found)) (in_range name 1 MOST_PROCESSORS) (kind_means name (as_integer found)) (λ v _. range_means name 1 MOST_PROCESSORS v))
+
+delay_means : (o : Option Data) → Means (Within 0 MOST_DELAY) (delay_at o)
+delay_means None = (omega arith, omega arith)
+delay_means (Some found) =
+    let name : List ℕ = codes "barrier" in
+    then_means Any (Within 0 MOST_DELAY) (of_kind name (as_integer found)) (in_range name 0 MOST_DELAY) (kind_means name (as_integer found)) (λ v _. range_means name 0 MOST_DELAY v)
 
 times_mean : (document : Members) → Means Any (times_of document)
 times_mean document =
@@ -101,46 +108,59 @@ class_count : length class_keys ≡ 9
 unfolding class_keys
 class_count = refl
 
--- what a machine keeps
-abbrev Lawful : Machine → Type 0
-Lawful m = IsMachine m.processors m.times
+module _ (document : Members) where
+  with_intervals : ℕ → ℕ → Members → List Interval → Read Machine
+  with_intervals processors delay times intervals = no_unknown document times >>= (λ _. Ok (record { processors = processors; delay = delay; times = intervals }))
 
-document_means : (document : Members) → Means Lawful (machine_of_document document)
-document_means document = then_means (Within 1 64) Lawful (processors_of document) with_processors (processors_mean document) processors_go
-  where
-    with_intervals : ℕ → Members → List Interval → Read Machine
-    with_intervals processors times intervals = no_unknown document times >>= (λ _. Ok (record { processors = processors; times = intervals }))
+  with_times : ℕ → ℕ → Members → Read Machine
+  with_times processors delay times = intervals_of class_keys times >>= with_intervals processors delay times
 
-    with_times : ℕ → Members → Read Machine
-    with_times processors times = intervals_of class_keys times >>= with_intervals processors times
+  with_delay : ℕ → ℕ → Read Machine
+  with_delay processors delay = times_of document >>= with_times processors delay
 
-    with_processors : ℕ → Read Machine
-    with_processors processors = times_of document >>= with_times processors
+  with_processors : ℕ → Read Machine
+  with_processors processors = delay_of document >>= with_delay processors
 
-    intervals_go : (processors : ℕ) → Within 1 64 processors → (times : Members) (intervals : List Interval) → AreTimes (length class_keys) intervals → Means Lawful (with_intervals processors times intervals)
-    intervals_go processors h times intervals k =
-        then_means Any Lawful (no_unknown document times) (λ _. Ok (record { processors = processors; times = intervals })) (unknown_means document times)
-        (λ _ _. record { some = h.0; few = h.1; count = k.0 ∙ class_count; each = k.1 })
+  module _ (processors delay : ℕ) (some : Within 1 MOST_PROCESSORS processors) (quick : Within 0 MOST_DELAY delay) where
+    intervals_go : (times : Members) (intervals : List Interval) → AreTimes (length class_keys) intervals → Means IsMachine (with_intervals processors delay times intervals)
+    unfolding with_intervals
+    intervals_go times intervals k =
+        then_means Any IsMachine (no_unknown document times) (λ _. Ok (record { processors = processors; delay = delay; times = intervals })) (unknown_means document times)
+        (λ _ _. record { some = some.0; few = some.1; quick = quick.1; count = k.0 ∙ class_count; each = k.1 })
 
-    times_go : (processors : ℕ) → Within 1 64 processors → (times : Members) → Any times → Means Lawful (with_times processors times)
-    times_go processors h times _ = then_means (AreTimes (length class_keys)) Lawful (intervals_of class_keys times) (with_intervals processors times) (intervals_mean class_keys times) (intervals_go processors h times)
+    times_go : (times : Members) → Any times → Means IsMachine (with_times processors delay times)
+    unfolding with_times
+    times_go times _ =
+        then_means (AreTimes (length class_keys)) IsMachine (intervals_of class_keys times) (with_intervals processors delay times)
+        (intervals_mean class_keys times) (intervals_go times)
 
-    processors_go : (processors : ℕ) → Within 1 64 processors → Means Lawful (with_processors processors)
-    processors_go processors h = then_means Any Lawful (times_of document) (with_times processors) (times_mean document) (times_go processors h)
+    delay_go : Means IsMachine (with_delay processors delay)
+    unfolding with_delay
+    delay_go = then_means Any IsMachine (times_of document) (with_times processors delay) (times_mean document) times_go
 
-text_means : (o : Option Members) → Means Lawful (machine_of_text o)
+  processors_go : (processors : ℕ) → Within 1 MOST_PROCESSORS processors → Means IsMachine (with_processors processors)
+  unfolding with_processors
+  processors_go processors some =
+      then_means (Within 0 MOST_DELAY) IsMachine (delay_of document) (with_delay processors) (delay_means (get_member (codes "barrier") document))
+      (λ delay quick. delay_go processors delay some quick)
+
+  document_means : Means IsMachine (machine_of_document document)
+  unfolding with_processors with_delay with_times with_intervals
+  document_means = then_means (Within 1 MOST_PROCESSORS) IsMachine (processors_of document) with_processors (processors_mean document) processors_go
+
+text_means : (o : Option Members) → Means IsMachine (machine_of_text o)
 text_means None = λ e. cc
 text_means (Some document) = document_means document
 
-tested : (b : Bool) (m n : Read Machine) → Means Lawful m → Means Lawful n → Means Lawful (if b then m else n)
+tested : (b : Bool) (m n : Read Machine) → Means IsMachine m → Means IsMachine n → Means IsMachine (if b then m else n)
 tested true m n h g = h
 tested false m n h g = g
 
-bytes_mean : (bytes : List ℕ) → Means Lawful (machine_of bytes)
+bytes_mean : (bytes : List ℕ) → Means IsMachine (machine_of bytes)
 bytes_mean bytes = tested (is_utf8 bytes) (machine_of_text (parse_document bytes)) (Err NotToml) (text_means (parse_document bytes)) (λ e. cc)
 
-pub machine_means : (bytes : List ℕ) (m : Machine) → machine_of bytes ≡ Ok m → IsMachine m.processors m.times
-machine_means bytes m e = subst (Means Lawful) e (bytes_mean bytes)
+pub machine_means : (bytes : List ℕ) (m : Machine) → machine_of bytes ≡ Ok m → IsMachine m
+machine_means bytes m e = subst (Means IsMachine) e (bytes_mean bytes)
 
 pub fault_means : (bytes : List ℕ) (x : MachineFault) → machine_of bytes ≡ Err x → x ≢ Memory
-fault_means bytes x e = subst (Means Lawful) e (bytes_mean bytes)
+fault_means bytes x e = subst (Means IsMachine) e (bytes_mean bytes)

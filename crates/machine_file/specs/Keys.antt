@@ -7,7 +7,7 @@ use Rattle.toml.specs.Data.{Members, no_members, member}
 
 -- the keys at the top
 unfoldable pub top_keys : List (List ℕ)
-top_keys = codes "processors" ∷ codes "times" ∷ []
+top_keys = codes "processors" ∷ codes "barrier" ∷ codes "times" ∷ []
 
 -- the keys in `times`, in the order of the classes
 unfoldable pub class_keys : List (List ℕ)

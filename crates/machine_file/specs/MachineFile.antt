@@ -1,6 +1,8 @@
 -- What a machine file means: a machine, or the first fault.
-use Rattle.std.specs.Prelude.{ℕ, ℤ, pos, negsuc, ◌≡◌, ◌⊎◌, nat_le, ◌&&◌, List, [], ◌∷◌, ◌++◌, Option, Some, None, Result, Ok, Err, MatchResult, if◌then◌else◌, codes}
+use Rattle.std.specs.Prelude.{ℕ, ℤ, pos, negsuc, ◌≡◌, ◌⊎◌, nat_le, ◌&&◌, List, [], ◌∷◌, ◌++◌, Option, Some, None, Result, Ok, Err}
+use Rattle.std.specs.Prelude.{MatchResult, if◌then◌else◌, codes}
 use Rattle.std.specs.Str.{is_utf8}
+use Rattle.bm_base.specs.declared.limits.TheConstants.{MOST_PROCESSORS, MOST_DELAY, MOST_TICKS}
 use Rattle.bm_base.specs.declared.spec.Interval.{Interval}
 use Rattle.bm_base.specs.Machine.{Machine}
 use Rattle.toml.specs.Data.{Data, integer, array, no_items, item, Members, get_member, as_integer, as_table}
@@ -43,8 +45,8 @@ abbrev pub interval_of : List ℕ → Option Data → Read Interval
 interval_of name found = do
   d ← at_key name found
   ends ← of_kind name (pair_of d)
-  least ← in_range name 1 1000 ends.0
-  most ← in_range name least 1000 ends.1
+  least ← in_range name 1 MOST_TICKS ends.0
+  most ← in_range name least MOST_TICKS ends.1
   Ok (record { least = least; most = most })
 
 -- a key in `times` as it is told
@@ -69,7 +71,18 @@ abbrev pub processors_of : Members → Read ℕ
 processors_of document = do
   found ← at_key (codes "processors") (get_member (codes "processors") document)
   count ← of_kind (codes "processors") (as_integer found)
-  in_range (codes "processors") 1 64 count
+  in_range (codes "processors") 1 MOST_PROCESSORS count
+
+-- the delay that stands at its key; none where the key is missing
+abbrev pub delay_at : Option Data → Read ℕ
+delay_at None = Ok 0
+delay_at (Some found) = do
+  delay ← of_kind (codes "barrier") (as_integer found)
+  in_range (codes "barrier") 0 MOST_DELAY delay
+
+-- how many ticks lie between the firing of a mask and the resuming of its members
+abbrev pub delay_of : Members → Read ℕ
+delay_of document = delay_at (get_member (codes "barrier") document)
 
 -- the table of times
 abbrev pub times_of : Members → Read Members
@@ -87,10 +100,11 @@ no_unknown document times = do
 abbrev pub machine_of_document : Members → Read Machine
 machine_of_document document = do
   processors ← processors_of document
+  delay ← delay_of document
   times ← times_of document
   intervals ← intervals_of class_keys times
   _ ← no_unknown document times
-  Ok (record { processors = processors; times = intervals })
+  Ok (record { processors = processors; delay = delay; times = intervals })
 
 abbrev pub machine_of_text : Option Members → Read Machine
 machine_of_text None = Err NotToml

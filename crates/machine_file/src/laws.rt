@@ -5,9 +5,9 @@ ghost use Rattle.machine_file.specs.declared.fault.MachineFault.{MachineFault};
 ghost use Rattle.machine_file.specs.declared.fault.MachineFault.TheVariants.{Memory};
 ghost use Rattle.machine_file.specs.MachineFile.{machine_of};
 
-/// What a machine file means is a machine with lawful processors and times, or a fault that is not
+/// What a machine file means is a lawful machine, or a fault that is not
 /// want of memory.
 pub fn machine_files_mean_machines()
-    ensures machine { (bytes : List ℕ) (m : Machine) → machine_of bytes ≡ Ok m → IsMachine m.processors m.times }
+    ensures machine { (bytes : List ℕ) (m : Machine) → machine_of bytes ≡ Ok m → IsMachine m }
     ensures fault { (bytes : List ℕ) (e : MachineFault) → machine_of bytes ≡ Err e → e ≢ Memory }
 {}

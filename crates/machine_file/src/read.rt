@@ -1,6 +1,6 @@
 //! The machine of a machine file.
 
-ghost use Rattle.std.specs.Prelude.{◌≡◌, ◌⊎◌, ◌++◌, ◌≤◌, ℕ, codes, map, length, Ok, Err, OnOk, IfOk, IfErr, option_map};
+ghost use Rattle.std.specs.Prelude.{◌≡◌, ◌⊎◌, ◌++◌, ◌≤◌, ℕ, codes, map, length, Some, Ok, Err, OnOk, IfOk, IfErr, option_map};
 ghost use Rattle.std.specs.List.{AllByRecursion};
 ghost use Rattle.bm_base.specs.Machine.{IsTime};
 ghost use Rattle.toml.specs.Data.{get_member};
@@ -9,19 +9,15 @@ ghost use Rattle.machine_file.specs.Keys as keys;
 ghost use Rattle.machine_file.specs.MachineFile as spec;
 
 use crate::fault::{MachineFault, key_fault, kind_fault, range_fault};
-use bm_base::{Interval, Spec};
+use bm_base::{Interval, MOST_DELAY, MOST_PROCESSORS, MOST_TICKS, Spec};
 use std::alloc::Global;
 use toml::{Table, Value};
 
-const TOP_KEYS: [&str; 2] = ["processors", "times"];
+const TOP_KEYS: [&str; 3] = ["processors", "barrier", "times"];
 
 const CLASS_KEYS: [&str; 9] = [
     "const", "load", "store", "loadel", "storeel", "alu", "mul", "div", "print",
 ];
-
-const MOST_PROCESSORS: u16 = 64;
-
-const MOST_TICKS: u16 = 1000;
 
 /// What stands at a key.
 fn at_key<'a>(
@@ -94,7 +90,8 @@ fn read_intervals(
     requires count { length intervals.old ≡ length keys.now }
     requires time { AllByRecursion IsTime intervals.old }
     ensures ok { OnOk result (spec.intervals_of (map (λ k. k.now) keys.now) (table_view times.now) ≡ Ok intervals.new) }
-    ensures err { IfErr result (λ e. (spec.intervals_of (map (λ k. k.now) keys.now) (table_view times.now) ≡ Err e) ⊎ (e ≡ MachineFault.Memory)) }
+    ensures err { IfErr result (λ e. (spec.intervals_of (map (λ k. k.now) keys.now) (table_view times.now) ≡ Err e)
+        ⊎ (e ≡ MachineFault.Memory)) }
     ensures time { AllByRecursion IsTime intervals.new }
 {
     for (place, key) in keys.iter().enumerate() {
@@ -144,7 +141,8 @@ fn first_unknown<'a>(table: &'a Table, known: &[&str]) -> Option<&'a str>
 
 /// Refuses a table with a key that is none of these.
 fn has_only(alloc: Global, table: &Table, known: &[&str], prefix: &str) -> Result<(), MachineFault>
-    ensures { spec.Tells (λ _. tt) (spec.without (λ key. prefix.now ++ key) (keys.first_unknown (map (λ k. k.now) known.now) (keys.keys_of (table_view table.now)))) result }
+    ensures { spec.Tells (λ _. tt) (spec.without (λ key. prefix.now
+        ++ key) (keys.first_unknown (map (λ k. k.now) known.now) (keys.keys_of (table_view table.now)))) result }
 {
     match first_unknown(table, known) {
         None => Ok(()),
@@ -165,14 +163,46 @@ fn no_unknown(alloc: Global, document: &Table, times: &Table) -> Result<(), Mach
 /// How many processors.
 fn processors(alloc: Global, document: &Table) -> Result<u8, MachineFault>
     ensures told { spec.Tells (λ n. n) (spec.processors_of (table_view document.now)) result }
-    ensures range { IfOk result (λ n. (1 ≤ n) × (n ≤ 64)) }
+    ensures range { IfOk result (λ n. (1 ≤ n) × (n ≤ MOST_PROCESSORS)) }
 {
     let value = at_key(alloc, document, "", "processors")?;
     let Some(count) = value.as_integer() else {
         return Err(kind_fault(alloc, "", "processors"));
     };
-    let processors = in_range(alloc, "", "processors", 1, MOST_PROCESSORS, count)?;
+    let processors = in_range(
+        alloc,
+        "",
+        "processors",
+        1,
+        u16::from(MOST_PROCESSORS),
+        count,
+    )?;
     Ok(processors as u8)
+}
+
+/// How many ticks lie between the firing of a mask and the resuming of its members, from what
+/// stands at the key.
+fn ticks(alloc: Global, value: &Value) -> Result<u8, MachineFault>
+    ensures told { spec.Tells (λ n. n) (spec.delay_at (Some (view value.now))) result }
+    ensures range { IfOk result (λ n. n ≤ MOST_DELAY) }
+{
+    let Some(ticks) = value.as_integer() else {
+        return Err(kind_fault(alloc, "", "barrier"));
+    };
+    let ticks = in_range(alloc, "", "barrier", 0, u16::from(MOST_DELAY), ticks)?;
+    Ok(ticks as u8)
+}
+
+/// How many ticks lie between the firing of a mask and the resuming of its members; none where the
+/// key is missing.
+fn barrier(alloc: Global, document: &Table) -> Result<u8, MachineFault>
+    ensures told { spec.Tells (λ n. n) (spec.delay_of (table_view document.now)) result }
+    ensures range { IfOk result (λ n. n ≤ MOST_DELAY) }
+{
+    match document.get("barrier") {
+        None => Ok(0),
+        Some(value) => ticks(alloc, value),
+    }
 }
 
 /// The table of times.
@@ -191,10 +221,11 @@ fn machine(alloc: Global, document: &Table) -> Result<Spec, MachineFault>
     ensures { spec.Tells (λ m. m) (spec.machine_of_document (table_view document.now)) result }
 {
     let processors = processors(alloc, document)?;
+    let barrier = barrier(alloc, document)?;
     let times = times_table(alloc, document)?;
     let intervals = intervals_of_classes(alloc, times)?;
     no_unknown(alloc, document, times)?;
-    match Spec::new(processors, intervals) {
+    match Spec::new(processors, barrier, intervals) {
         Some(spec) => Ok(spec),
         None => unreachable!(),
     }
@@ -205,7 +236,7 @@ fn machine(alloc: Global, document: &Table) -> Result<Spec, MachineFault>
 /// # Errors
 ///
 /// `NotToml` where the bytes are no TOML text; else the first fault of the keys in the order
-/// `processors`, `times`, the times in the order of the classes; else a key that a machine file does
+/// `processors`, `barrier`, `times`, the times in the order of the classes; else a key that a machine file does
 /// not have, the first in byte order at the top, then in `times`. Want of memory may come for any
 /// bytes.
 pub fn read_machine(alloc: Global, bytes: &[u8]) -> Result<Spec, MachineFault>

@@ -69,6 +69,7 @@ fn a_machine_file_gives_its_machine(rt: HostRuntime) -> Result<(), Fail> {
         return Err(Fail::from("refused"));
     };
     assert_eq!(rt; spec.processors(), 2);
+    assert_eq!(rt; spec.barrier(), 0);
     for (class, least, most) in [
         (Class::Const, 1, 1),
         (Class::Load, 1, 4),
@@ -86,11 +87,23 @@ fn a_machine_file_gives_its_machine(rt: HostRuntime) -> Result<(), Fail> {
 }
 
 #[test]
+fn a_machine_file_may_have_a_delay(rt: HostRuntime) -> Result<(), Fail> {
+    let Ok(spec) = read_with(rt.alloc(), 0, "processors = 128\nbarrier = 100\n")? else {
+        return Err(Fail::from("refused"));
+    };
+    assert_eq!(rt; spec.processors(), 128);
+    assert_eq!(rt; spec.barrier(), 100);
+    Ok(())
+}
+
+#[test]
 fn numbers_out_of_range_are_told(rt: HostRuntime) -> Result<(), Fail> {
     for (place, text, name, value) in [
-        (0, "processors = 65\n", "processors", 65),
+        (0, "processors = 129\n", "processors", 129),
         (0, "processors = 0\n", "processors", 0),
         (0, "processors = -1\n", "processors", -1),
+        (0, "processors = 2\nbarrier = 101\n", "barrier", 101),
+        (0, "barrier = 101\nprocessors = 0\n", "processors", 0),
         (2, "const = [0, 1]\n", "times.const", 0),
         (3, "load = [4, 1]\n", "times.load", 1),
         (3, "load = [1, 1001]\n", "times.load", 1001),
@@ -108,7 +121,6 @@ fn missing_and_unknown_keys_are_told(rt: HostRuntime) -> Result<(), Fail> {
         (0, "", "processors"),
         (9, "", "times.div"),
         (0, "processors = 2\ncolour = 1\n", "colour"),
-        (0, "processors = 2\nbarrier = 1\n", "barrier"),
         (0, "\"a\\nb\" = 1\nprocessors = 2\n", "a\nb"),
         (9, "div = [4, 12]\ncolour = 1\nalu2 = 1\n", "times.alu2"),
         (0, "colour = 1\n", "processors"),
@@ -128,6 +140,7 @@ fn values_of_another_kind_are_told(rt: HostRuntime) -> Result<(), Fail> {
         (9, "div = [4, 12.0]\n", "times.div"),
         (0, "processors = 2.0\n", "processors"),
         (0, "processors = true\n", "processors"),
+        (0, "processors = 2\nbarrier = \"x\"\n", "barrier"),
         (1, "[[times]]\n", "times"),
     ] {
         let read = read_with(rt.alloc(), place, text)?;

@@ -1,3 +1,4 @@
-pub mod Memories
 pub mod Texts
 pub mod Ends
+pub mod LawfulKinds
+pub mod Serials

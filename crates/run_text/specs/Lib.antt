@@ -1,2 +1,4 @@
 pub mod RunText
+pub mod Laws
 pub mod Begins
+pub mod Serial

@@ -1,108 +1,185 @@
 // The text of a run, as the machine runs.
-ghost use Rattle.std.specs.Prelude.{◌≡◌, ◌≤◌, ◌++◌, ℤ, List, Option, IfOk};
-ghost use Rattle.bm_base.specs.Memory.{Content, initial};
+ghost use Rattle.std.specs.Prelude.{◌≡◌, ◌≤◌, ℕ, IfOk, length};
+ghost use Rattle.bm_base.specs.Memories.{IsMemoryOf};
 ghost use Rattle.bm_io.specs.declared.sinks.SinkFault.TheVariants.{Failed};
 ghost use Rattle.bm_io.specs.Causes.{HasCause};
-ghost use Rattle.timing_script.specs.Script.{script_duration};
-ghost use Rattle.unit_law.specs.Units.{static_choice};
 ghost use Rattle.bm_io.specs.LineValues.{with_line, LeavesPrefix};
-ghost use Rattle.bm_io.specs.Values.{Took};
-ghost use Rattle.bm_run.specs.RunUpTo.{End, IsRunUpTo};
-ghost use Rattle.bm_run.specs.Runs.{HasCome, RunsOn};
+ghost use Rattle.line_model.specs.Streams.{masks};
+ghost use Rattle.unit_law.specs.State.{code_at};
+ghost use Rattle.unit_law.specs.OnUnit.{IsLawfulChoice};
+ghost use Rattle.bm_machine.specs.Next.{Stays};
+ghost use Rattle.bm_run.specs.Runs.{RunsTo, GivesOn};
 ghost use Rattle.bm_course.specs.Course.{Output};
 ghost use Rattle.bm_course.specs.Sends.{Sends};
-ghost use Rattle.run_text.specs.RunText.{IsRunText};
-ghost use Rattle.run_text.specs.Begins.{Begins};
+ghost use Rattle.unit_law.specs.Units.{static_choice, dynamic_choice};
+ghost use Rattle.timing_script.specs.Script.{script_duration};
+ghost use Rattle.bm_base.specs.Memory.{initial};
+ghost use Rattle.run_text.specs.RunText.{IsTextOf, IsRunText};
+ghost use Rattle.run_text.specs.Begins.{Begins, SendsText};
 
-use bm_base::{Names, Store};
+use crate::{UnitKind, runs_have_some_text, runs_on_any_unit_have_one_text};
+use bm_base::{MOST_BUDGET, Names, Store};
 use bm_io::{LineValues, Sink, SinkFault};
-use bm_machine::{Core, Machine};
+use bm_machine::Machine;
 use bm_report::{write_end, write_going};
-use bm_run::{RunEnd, a_run_begins, a_run_shows_one_thing, run};
+use bm_run::{Prints, RunEnd, a_run_begins, run_prints};
+use dbm_unit::Dbm;
 use sbm_unit::Sbm;
 use std::alloc::{AllocError, Global};
+use stream_image::Image;
+use timing_law::Timing;
 use timing_script::Script;
-use unit_law::choices_are_lawful;
+use unit_law::{BarrierUnit, choices_are_lawful};
 
-/// A machine on the static unit, before the run of a program with the durations of a script.
-fn machine_before<'a>(
+/// A machine before the run of a program from this memory, on this unit with this timing.
+fn machine_before<'a, U: BarrierUnit, T: Timing>(
     alloc: Global,
-    core: &'a Core,
-    script: Script,
-) -> Result<Machine<'a, Sbm, Script>, AllocError>
-    ensures program { IfOk result (λ machine. machine.program ≡ core.now) }
-    ensures timing { IfOk result (λ machine. machine.timing ≡ script) }
-    ensures begins { IfOk result (λ machine. Begins core.now script machine.state machine.counts) }
+    image: &'a Image,
+    store: Store,
+    unit: U,
+    timing: T,
+) -> Result<Machine<'a, U, T>, AllocError>
+    requires memory { IsMemoryOf image.now.names store }
+    requires room { (b : ℕ) → length (masks (code_at image.now b).line) ≤ U.capacity unit }
+    ensures program { IfOk result (λ machine. machine.program ≡ image.now) }
+    ensures choice { IfOk result (λ machine. U.choice machine.unit ≡ U.choice unit) }
+    ensures timing { IfOk result (λ machine. machine.timing ≡ timing) }
+    ensures begins { IfOk result (λ machine. Begins (U.choice unit) (T.duration timing) image.now store machine.state machine.counts) }
 {
     a_run_begins();
-    let store = Store::new(alloc, core.names())?;
-    let unit = Sbm::new(alloc, core.most_masks())?;
-    let machine = Machine::new(alloc, core, store, unit, script)?;
-    Ok(machine)
+    Machine::new(alloc, image, store, unit, timing)
 }
 
 /// Writes a line for each print of a machine's run at clocks of at most the budget.
-fn write_prints<O: Sink>(
+fn write_prints<U: BarrierUnit, T: Timing, O: Sink>(
     out: &mut O,
-    machine: &mut Machine<'_, Sbm, Script>,
+    machine: &mut Machine<'_, U, T>,
     budget: u64,
 ) -> Result<RunEnd, SinkFault>
-    requires early { budget ≤ 1000000000000 }
-    ensures come { (memory : List Content) → HasCome static_choice (script_duration machine.old.timing) machine.old.program memory machine.old.state machine.old.counts → HasCome static_choice (script_duration machine.old.timing) machine.old.program memory machine.new.state machine.new.counts }
-    ensures runs { (memory : List Content) → HasCome static_choice (script_duration machine.old.timing) machine.old.program memory machine.old.state machine.old.counts → machine.old.state.clock ≤ budget → RunsOn static_choice (script_duration machine.old.timing) machine.old.program memory budget machine.old.state.world.output machine.new.state with_line LeavesPrefix (O.taken out.old) (O.taken out.new) result }
-    ensures took { (memory : List Content) → HasCome static_choice (script_duration machine.old.timing) machine.old.program memory machine.old.state machine.old.counts → machine.old.state.clock ≤ budget → (values : List ℤ) (end : Option End) → IsRunUpTo static_choice (script_duration machine.old.timing) machine.old.program memory budget (machine.old.state.world.output ++ values) end → Took with_line LeavesPrefix (O.taken out.old) (O.taken out.new) values result }
+    requires early { budget ≤ MOST_BUDGET }
+    ensures stays { Stays U.choice machine.old machine.new }
+    ensures runs { RunsTo U.choice T.duration machine.old machine.new budget with_line LeavesPrefix (O.taken out.old)
+        (O.taken out.new) result }
+    ensures took { GivesOn U.choice T.duration machine.old budget with_line LeavesPrefix (O.taken out.old) (O.taken out.new) result }
     ensures cause { HasCause Failed (O.faults out.old) (O.faults out.new) result }
 {
-    let mut values = LineValues::new(out);
-    run(machine, budget, &mut values)
+    let values = LineValues::new(out);
+    let mut prints = Prints::new(values);
+    run_prints(machine, budget, &mut prints)
 }
 
 /// Writes what a machine's run shows at clocks of at most the budget, from its beginning.
-fn show<O: Sink>(
+fn show<U: BarrierUnit, T: Timing, O: Sink>(
     out: &mut O,
-    machine: &mut Machine<'_, Sbm, Script>,
+    machine: &mut Machine<'_, U, T>,
     names: &Names,
     budget: u64,
 ) -> Result<u8, SinkFault>
-    requires early { budget ≤ 1000000000000 }
+    requires early { budget ≤ MOST_BUDGET }
     requires names { names.now ≡ machine.old.program.names }
-    requires begins { Begins machine.old.program machine.old.timing machine.old.state machine.old.counts }
-    requires shows { (output : List ℤ) × ((end : Option End) × IsRunUpTo static_choice (script_duration machine.old.timing) machine.old.program (initial names.now) budget output end) }
-    ensures sent { (text : Output) × IsRunText machine.old.program machine.old.timing budget text × Sends (O.taken out.old) (O.taken out.new) text result }
+    ensures sent { SendsText U.choice T.duration machine.old budget (O.taken out.old) (O.taken out.new) result }
     ensures cause { HasCause Failed (O.faults out.old) (O.faults out.new) result }
 {
-    match write_prints(out, machine, budget) {
-        Err(fault) => Err(fault),
-        Ok(RunEnd::Ended) => match write_end(out, machine.clock(), names, machine.store()) {
-            Ok(()) => Ok(0),
-            Err(fault) => Err(fault),
-        },
-        Ok(RunEnd::Going) => match write_going(out, budget) {
-            Ok(()) => Ok(8),
-            Err(fault) => Err(fault),
-        },
+    runs_on_any_unit_have_one_text();
+    match write_prints(out, machine, budget)? {
+        RunEnd::Ended => {
+            write_end(out, machine.clock(), names, machine.store())?;
+            Ok(0)
+        }
+        RunEnd::Going => {
+            write_going(out, budget)?;
+            Ok(8)
+        }
     }
 }
 
-/// Writes the text of the run of a program on the static unit, with the durations of a script, at clocks of at most
-/// the budget; it answers 0 where the run has ended, and 8 where it is still going.
-pub fn write_run<O: Sink>(
+/// Writes the text of the run of a program from this memory, on this unit with this timing, at clocks
+/// of at most `budget` ticks.
+///
+/// It answers 0 where the run has ended, and 8 where it is still going. The unit has room for the
+/// masks of each block. Where there is no memory for the machine nothing is written; after a fault of
+/// the sink nothing more is.
+pub fn write_run_on<U: BarrierUnit, T: Timing, O: Sink>(
     alloc: Global,
     out: &mut O,
-    core: &Core,
+    image: &Image,
+    store: Store,
+    unit: U,
+    timing: T,
+    budget: u64,
+) -> Result<u8, SinkFault>
+    requires early { budget ≤ MOST_BUDGET }
+    requires memory { IsMemoryOf image.now.names store }
+    requires room { (b : ℕ) → length (masks (code_at image.now b).line) ≤ U.capacity unit }
+    requires lawful { IsLawfulChoice (U.choice unit) image.now }
+    ensures sent { (text : Output) × IsTextOf (U.choice unit) (T.duration timing) image.now store budget text
+        × Sends (O.taken out.old) (O.taken out.new) text result }
+    ensures cause { HasCause Failed (O.faults out.old) (O.faults out.new) result }
+{
+    let _blocks = image.blocks();
+    runs_on_any_unit_have_one_text();
+    let mut machine = machine_before(alloc, image, store, unit, timing)?;
+    show(out, &mut machine, image.names(), budget)
+}
+
+/// The text on the static unit.
+fn write_static<O: Sink>(
+    alloc: Global,
+    out: &mut O,
+    image: &Image,
     script: Script,
     budget: u64,
 ) -> Result<u8, SinkFault>
-    requires early { budget ≤ 1000000000000 }
-    ensures sent { (text : Output) × IsRunText core.now script budget text × Sends (O.taken out.old) (O.taken out.new) text result }
+    requires early { budget ≤ MOST_BUDGET }
+    ensures sent { (text : Output) × IsTextOf static_choice (script_duration script) image.now (initial image.now.names) budget text
+        × Sends (O.taken out.old) (O.taken out.new) text result }
     ensures cause { HasCause Failed (O.faults out.old) (O.faults out.new) result }
 {
-    core.laws();
-    core.times();
+    let _blocks = image.blocks();
     choices_are_lawful();
-    a_run_shows_one_thing();
-    match machine_before(alloc, core, script) {
-        Ok(mut machine) => show(out, &mut machine, core.names(), budget),
-        Err(_) => Err(SinkFault::Memory),
+    runs_have_some_text();
+    let store = Store::new(alloc, image.names())?;
+    let unit = Sbm::new(alloc, image.most_masks())?;
+    write_run_on(alloc, out, image, store, unit, script, budget)
+}
+
+/// The text on the dynamic unit.
+fn write_dynamic<O: Sink>(
+    alloc: Global,
+    out: &mut O,
+    image: &Image,
+    script: Script,
+    budget: u64,
+) -> Result<u8, SinkFault>
+    requires early { budget ≤ MOST_BUDGET }
+    ensures sent { (text : Output) × IsTextOf dynamic_choice (script_duration script) image.now (initial image.now.names) budget text
+        × Sends (O.taken out.old) (O.taken out.new) text result }
+    ensures cause { HasCause Failed (O.faults out.old) (O.faults out.new) result }
+{
+    let _blocks = image.blocks();
+    choices_are_lawful();
+    runs_have_some_text();
+    let store = Store::new(alloc, image.names())?;
+    let unit = Dbm::new(alloc, image.most_masks())?;
+    write_run_on(alloc, out, image, store, unit, script, budget)
+}
+
+/// Writes the text of the run of a program from its declared memory, on a unit of this kind, with the
+/// durations of a script, at clocks of at most `budget` ticks, as `write_run_on` does.
+pub fn write_run<O: Sink>(
+    alloc: Global,
+    out: &mut O,
+    image: &Image,
+    kind: UnitKind,
+    script: Script,
+    budget: u64,
+) -> Result<u8, SinkFault>
+    requires early { budget ≤ MOST_BUDGET }
+    ensures sent { (text : Output) × IsRunText image.now kind script budget text × Sends (O.taken out.old) (O.taken out.new) text result }
+    ensures cause { HasCause Failed (O.faults out.old) (O.faults out.new) result }
+{
+    match kind {
+        UnitKind::Static => write_static(alloc, out, image, script, budget),
+        UnitKind::Dynamic => write_dynamic(alloc, out, image, script, budget),
     }
 }

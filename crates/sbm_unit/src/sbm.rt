@@ -46,7 +46,6 @@ impl Sbm {
 impl BarrierUnit for Sbm {
     ghost use Rattle.unit_law.specs.Units.{static_choice};
     ghost use Rattle.sbm_unit.specs.Queue.{Queue, fired_front};
-    ghost use Rattle.sbm_unit.specs.Lawful.{queue_lawful};
 
     ghost queue = { λ u. u.masks };
 
@@ -57,8 +56,6 @@ impl BarrierUnit for Sbm {
     ghost capacity = { λ u. u.room };
 
     ghost choice = { λ _ masks fired waiting. static_choice masks fired waiting };
-
-    ghost lawful = { queue_lawful };
 
     fn room(&self) -> usize {
         self.slots.len()
@@ -98,7 +95,7 @@ mod tests {
     use std::test::Fail;
 
     fn pair(p: u8, q: u8) -> Mask
-        requires { (p < 64) × (q < 64) }
+        requires { (p < 128) × (q < 128) }
         ensures { result ≡ bit_or (bit_or 0 (2 ^ p)) (2 ^ q) }
     {
         let mut mask = Mask::empty();
@@ -107,14 +104,15 @@ mod tests {
         mask
     }
 
-    // The masks 3 and c: c's members come first, and wait for 3 to fire.
+    // The masks of processors 0 and 1 and of 2 and 127: these two come first, and wait for that one to
+    // fire.
     #[test]
     fn only_the_head_of_the_queue_fires(rt: HostRuntime) -> Result<(), Fail> {
         let mut unit = Sbm::new(rt.alloc(), 2)?;
         assert_eq!(rt; unit.room(), 2);
-        unit.load(&[pair(0, 1), pair(2, 3)]);
+        unit.load(&[pair(0, 1), pair(2, 127)]);
         unit.arrive(2);
-        unit.arrive(3);
+        unit.arrive(127);
         assert_eq!(rt; unit.pick(), None);
         unit.arrive(0);
         unit.arrive(1);

@@ -2,6 +2,7 @@
 use Rattle.std.specs.Prelude.{◌≡◌, ℕ, List}
 use Rattle.src_names.specs.RProgram.{RProgram}
 use Rattle.src_names.specs.Right.{IsRight}
+use Rattle.src_names.specs.Sizes.{AllFewNodes}
 use Rattle.src_front.specs.declared.fault.SourceFault.{SourceFault}
 use Rattle.src_front.specs.Reads.{Reads, FirstFault}
 
@@ -23,3 +24,7 @@ pub record HaveOneAnswer : Type 0 where
 -- what a text reads as has lawful names, and each name number in it is declared and of the right kind
 abbrev pub ReadRight : Type 0
 ReadRight = (src : List ℕ) (r : RProgram) → Reads src r → IsRight r
+
+-- and at most 120 nodes in each statement
+abbrev pub ReadFewNodes : Type 0
+ReadFewNodes = (src : List ℕ) (r : RProgram) → Reads src r → AllFewNodes r.body

@@ -38,4 +38,5 @@ pub record Reads (src : List ℕ) (program : RProgram) : Type 0 where
 pub data FirstFault (src : List ℕ) : SourceFault → Type 0 where
   of_bytes : {e : LexFault} → FaultsOfBytes src 0 e → FirstFault src (Lex e)
   of_tokens : {tokens : List Token} {e : ParseFault} → IsText src tokens → FaultsOfTokens src tokens e → FirstFault src (Parse e)
-  of_names : {tokens : List Token} {tree : Program} {e : NameFault} → IsTree src tokens tree → FaultsOfNames tree e → FirstFault src (Names e)
+  of_names : {tokens : List Token} {tree : Program} {e : NameFault} → IsTree src tokens tree → FaultsOfNames tree e
+      → FirstFault src (Names e)

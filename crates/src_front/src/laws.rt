@@ -1,6 +1,6 @@
 //! Laws of texts and the programs that they read as.
 
-ghost use Rattle.src_front.specs.Laws.{HaveOneAnswer, ReadOnce, ReadRight};
+ghost use Rattle.src_front.specs.Laws.{HaveOneAnswer, ReadFewNodes, ReadOnce, ReadRight};
 
 use src_lexer::{text_has_one_spelling, texts_have_one_answer};
 use src_names::{trees_have_one_answer, trees_have_one_program};
@@ -28,10 +28,11 @@ pub fn sources_have_one_answer()
     trees_have_one_answer();
 }
 
-/// What a text reads as has lawful names, and each name number in it is declared and of the right
-/// kind.
+/// What a text reads as has lawful names, each name number in it is declared and of the right
+/// kind, and each statement has at most 120 nodes.
 pub fn programs_are_read_right()
-    ensures { ReadRight }
+    ensures right { ReadRight }
+    ensures nodes { ReadFewNodes }
 {
     derived_trees_are_plain();
 }

@@ -30,7 +30,8 @@ pub fn read_source(alloc: Global, bytes: &[u8]) -> Result<Resolved, SourceFault>
     ensures only { (r : RProgram) → Reads bytes.now r → MatchResult result (λ x. x ≡ r) (λ e. e ≡ SourceFault.Memory) }
     // A fault is the first, and where there is one, it is told.
     ensures fault { IfErr result (λ e. (e ≢ SourceFault.Memory) → FirstFault bytes.now e) }
-    ensures only_fault { (e : SourceFault) → FirstFault bytes.now e → MatchResult result (λ _. ⊥) (λ x. (x ≡ e) ⊎ (x ≡ SourceFault.Memory)) }
+    ensures only_fault { (e : SourceFault) → FirstFault bytes.now e
+        → MatchResult result (λ _. ⊥) (λ x. (x ≡ e) ⊎ (x ≡ SourceFault.Memory)) }
 {
     derived_trees_are_plain();
     let tokens = lex(alloc, bytes)?;

@@ -2,7 +2,7 @@
 use Rattle.std.proofs.Common.{◌≡◌, ℕ, Bool, true, false, cond, ◌+◌, ◌-◌, ◌<◌, ◌≤◌, ℤ, List, [], ◌∷◌, ◌++◌, length, get_or, drop, length-take, length-drop, refl, ap, ◌∙◌, sym, subst, arith, All}
 use Rattle.std.proofs.lemmas.List.{get_or-take, get_or-drop, get_or_default}
 use Rattle.std.proofs.lemmas.Slice.Eq.{bytes_eq-Decides}
-use Rattle.std.specs.Prelude.{slice_range, slice_index, ◌==◌}
+use Rattle.std.specs.Prelude.{slice_range, slice_index}
 use Rattle.std.specs.Char.{is_ascii_digit}
 use Rattle.std.specs.Str.{bytes_eq}
 use Rattle.src_lexer.specs.declared.token.Keyword.{Keyword}
@@ -11,12 +11,13 @@ use Rattle.src_lexer.specs.declared.token.Symbol.{Symbol}
 use Rattle.src_lexer.specs.declared.token.TokenKind.{TokenKind}
 use Rattle.src_lexer.specs.declared.token.TokenKind.TheVariants.{Name, Number, Word, Sym}
 use Rattle.src_lexer.specs.declared.token.Token.{Token}
-use Rattle.src_lexer.specs.declared.token.Start.{Start}
-use Rattle.src_lexer.specs.declared.token.Start.TheVariants as c
 use Rattle.src_lexer.specs.Symbols.{word_of, keyword}
-use Rattle.src_lexer.specs.Spell.{start, IsSpan, IsPieceOf, Spells, done, more, begins_name, is_name_byte, is_white, is_mark}
+use Rattle.src_lexer.specs.Spell.{token, IsSpan, IsPiece, white, comment, word, number, symbol, Spells, done, more}
 use Rattle.src_lexer.specs.Laws.{InOrder, BeginsName, IsTextOf, AreSlices, Ordered}
+use Rattle.bm_base.specs.Names.{begins_name, goes_on_name}
+use Rattle.src_lexer.proofs.First.{head_of}
 use Rattle.src_lexer.proofs.Unique.{moves}
+use Rattle.src_lexer.proofs.Words.{not_reserved}
 
 sooner : (from to last : ℕ) (ts : List Token) → from ≤ to → InOrder to last ts → InOrder from last ts
 sooner from to last [] h o = omega (arith, h, o)
@@ -62,20 +63,11 @@ word_no_symbol j y h = absurd cc
 name_no_symbol : (y : Symbol) → Name ≡ Sym y → ⊥
 name_no_symbol y h = absurd cc
 
-text_of_word : (bs : List ℕ) (k : TokenKind) → word_of bs ≡ k → BeginsName bs → All (λ b. is_name_byte b ≡ true) bs → IsTextOf k bs
-text_of_word bs Name e b g = record { begins = b; goes_on = g; free = e }
+text_of_word : (bs : List ℕ) (k : TokenKind) → word_of bs ≡ k → BeginsName bs → All (λ b. goes_on_name b ≡ true) bs → IsTextOf k bs
+text_of_word bs Name e b g = record { begins = b; goes_on = g; free = not_reserved bs e }
 text_of_word bs (Word k) e b g = is_word bs k e
 text_of_word bs (Number v) e b g = absurd (is_no_other bs (Number v) (λ j h. word_no_number j v h) (λ h. name_no_number v h) e)
 text_of_word bs (Sym y) e b g = absurd (is_no_other bs (Sym y) (λ j h. word_no_symbol j y h) (λ h. name_no_symbol y h) e)
-
--- what begins a name, by what the byte begins
-begins_letter : (w h a d m : Bool) → cond w c.White (cond h c.Comment (cond a c.Letter (cond d c.Digit (cond m c.Mark c.Other)))) ≡ c.Letter → a ≡ true
-begins_letter true h a d m e = cc
-begins_letter false true a d m e = cc
-begins_letter false false true d m e = refl
-begins_letter false false false true m e = cc
-begins_letter false false false false true e = cc
-begins_letter false false false false false e = cc
 
 module _ (src : List ℕ) (p : ℕ → Bool) (from to : ℕ) (s : IsSpan src p from to) where
   span_length : length (slice_range src from to) ≡ to - from
@@ -93,48 +85,47 @@ begins_of src [] from n h b = absurd (omega (arith, n))
 begins_of src (x ∷ bs) from n h b = ap begins_name (h 0) ∙ b
 
 module _ (src : List ℕ) where
-  one_more : (k : Start) (from to last : ℕ) (ts us : List Token) → from < to → IsPieceOf src k from to ts → InOrder to last us → InOrder from last (ts ++ us)
-  one_more c.White from to last ts us h p o = let P : List Token → Type 0 = λ z. InOrder from last (z ++ us) in subst P (sym p.1) (sooner from to last us (omega arith) o)
-  one_more c.Comment from to last ts us h p o = let P : List Token → Type 0 = λ z. InOrder from last (z ++ us) in subst P (sym p.1) (sooner from to last us (omega arith) o)
-  one_more c.Letter from to last ts us h p o = let P : List Token → Type 0 = λ z. InOrder from last (z ++ us) in subst P (sym p.1) (omega arith, h, o)
-  one_more c.Digit from to last ts us h p o = let P : List Token → Type 0 = λ z. InOrder from last (z ++ us) in subst P (sym p.1) (omega arith, h, o)
-  one_more c.Mark from to last ts us h p o = let P : List Token → Type 0 = λ z. InOrder from last (z ++ us) in subst P (sym p.2) (omega arith, h, o)
-  one_more c.Other from to last ts us h p o = absurd p
+  none_more : (from to last : ℕ) (ts us : List Token) → InOrder to last us → from ≤ to → ts ≡ [] → InOrder from last (ts ++ us)
+  none_more from to last ts us o h e = let P : List Token → Type 0 = λ z. InOrder from last (z ++ us) in subst P (sym e) (sooner from to last us h o)
+
+  token_more : (from to last : ℕ) (ts us : List Token) (k : TokenKind) → InOrder to last us → from < to → ts ≡ token k from to → InOrder from last (ts ++ us)
+  token_more from to last ts us k o h e = let P : List Token → Type 0 = λ z. InOrder from last (z ++ us) in subst P (sym e) (omega arith, h, o)
+
+  one_more : (from to last : ℕ) (ts us : List Token) → InOrder to last us → from < to → IsPiece src from to ts → InOrder from last (ts ++ us)
+  one_more from to last ts us o h (white g e t) = none_more from to last ts us o (omega arith) t
+  one_more from to last ts us o h (comment g s t) = none_more from to last ts us o (omega arith) t
+  one_more from to last ts us o h (word g s t) = token_more from to last ts us _ o h t
+  one_more from to last ts us o h (number g s t) = token_more from to last ts us _ o h t
+  one_more from to last ts us o h (symbol k s t) = token_more from to last ts us _ o h t
 
   in_order : {from : ℕ} {ts : List Token} → Spells src from ts → InOrder from (length src) ts
   in_order done = omega arith
-  in_order (more {from = from} {to = to} {ts = ts} {us = us} p s) = one_more (start (slice_index src from)) from to (length src) ts us (moves src from to ts p) p.piece (in_order s)
+  in_order (more {from = from} {to = to} {ts = ts} {us = us} p s) = one_more from to (length src) ts us (in_order s) (moves src from to ts p) p
 
-  head_of : (from to : ℕ) → from < to → IsSpan src is_name_byte from to → (d : ℕ) → get_or (slice_range src from to) 0 d ≡ get_or src from 0
-  head_of from to h p d =
-      let x : get_or (slice_range src from to) 0 d ≡ get_or src (from + 0) d = get_or-take (to - from) (drop from src) 0 d (omega (arith, h)) ∙ get_or-drop from src 0 d in
-      let z : from + 0 ≡ from = omega arith in
-      x ∙ ap (λ i. get_or src i d) z ∙ get_or_default src from d 0 (omega (arith, h, p.within))
+  first_of : (from to : ℕ) → from < to → to ≤ length src → (d : ℕ) → get_or (slice_range src from to) 0 d ≡ get_or src from 0
+  first_of from to h w d = head_of src h d ∙ get_or_default src from d 0 (omega (arith, h, w))
 
-  slice_word : (from to : ℕ) → from < to → start (slice_index src from) ≡ c.Letter → IsSpan src is_name_byte from to →
+  slice_word : (from to : ℕ) → from < to → begins_name (slice_index src from) ≡ true → IsSpan src goes_on_name from to →
       IsTextOf (word_of (slice_range src from to)) (slice_range src from to)
-  slice_word from to h e p =
+  slice_word from to h letter p =
       let bs : List ℕ = slice_range src from to in
-      let b : ℕ = slice_index src from in
-      let n : length bs ≡ to - from = span_length src is_name_byte from to p in
-      let letter : begins_name b ≡ true = begins_letter (is_white b) (b == 35) (begins_name b) (is_ascii_digit b) (is_mark b) e in
-      let head : (d : ℕ) → get_or bs 0 d ≡ get_or src from 0 = λ d. head_of from to h p d in
-      text_of_word bs (word_of bs) refl (begins_of src bs from (omega (arith, n, h)) head letter) (span_all src is_name_byte from to p)
+      let n : length bs ≡ to - from = span_length src goes_on_name from to p in
+      let head : (d : ℕ) → get_or bs 0 d ≡ get_or src from 0 = λ d. first_of from to h p.within d in
+      text_of_word bs (word_of bs) refl (begins_of src bs from (omega (arith, n, h)) head letter) (span_all src goes_on_name from to p)
 
-  one_slice : (k : Start) (from to : ℕ) (ts us : List Token) → from < to → start (slice_index src from) ≡ k → IsPieceOf src k from to ts → AreSlices src us → AreSlices src (ts ++ us)
-  one_slice c.White from to ts us h e p o = let P : List Token → Type 0 = λ z. AreSlices src (z ++ us) in subst P (sym p.1) o
-  one_slice c.Comment from to ts us h e p o = let P : List Token → Type 0 = λ z. AreSlices src (z ++ us) in subst P (sym p.1) o
-  one_slice c.Letter from to ts us h e p o = let P : List Token → Type 0 = λ z. AreSlices src (z ++ us) in subst P (sym p.1) (slice_word from to h e p.0, o)
-  one_slice c.Digit from to ts us h e p o =
+  one_slice : (from to : ℕ) (ts us : List Token) → from < to → IsPiece src from to ts → AreSlices src us → AreSlices src (ts ++ us)
+  one_slice from to ts us h (white g e t) o = let P : List Token → Type 0 = λ z. AreSlices src (z ++ us) in subst P (sym t) o
+  one_slice from to ts us h (comment g s t) o = let P : List Token → Type 0 = λ z. AreSlices src (z ++ us) in subst P (sym t) o
+  one_slice from to ts us h (word g s t) o = let P : List Token → Type 0 = λ z. AreSlices src (z ++ us) in subst P (sym t) (slice_word from to h g.passes s, o)
+  one_slice from to ts us h (number g s t) o =
       let P : List Token → Type 0 = λ z. AreSlices src (z ++ us) in
-      let n : length (slice_range src from to) ≡ to - from = span_length src is_ascii_digit from to p.0 in
-      subst P (sym p.1) (record { some = omega (arith, n, h); digits = span_all src is_ascii_digit from to p.0; value = refl }, o)
-  one_slice c.Mark from to ts us h e p o = let P : List Token → Type 0 = λ z. AreSlices src (z ++ us) in subst P (sym p.2) ((p.1).spelled, o)
-  one_slice c.Other from to ts us h e p o = absurd p
+      let n : length (slice_range src from to) ≡ to - from = span_length src is_ascii_digit from to s in
+      subst P (sym t) (record { some = omega (arith, n, h); digits = span_all src is_ascii_digit from to s; value = refl }, o)
+  one_slice from to ts us h (symbol k s t) o = let P : List Token → Type 0 = λ z. AreSlices src (z ++ us) in subst P (sym t) (s.spelled, o)
 
   slices : {from : ℕ} {ts : List Token} → Spells src from ts → AreSlices src ts
   slices done = tt
-  slices (more {from = from} {to = to} {ts = ts} {us = us} p s) = one_slice (start (slice_index src from)) from to ts us (moves src from to ts p) refl p.piece (slices s)
+  slices (more {from = from} {to = to} {ts = ts} {us = us} p s) = one_slice from to ts us (moves src from to ts p) p (slices s)
 
 few : (from to : ℕ) (ts : List Token) → InOrder from to ts → from + length ts ≤ to
 few from to [] o = omega (arith, o)

@@ -7,14 +7,15 @@ use Rattle.src_lexer.specs.declared.token.Symbol.{Symbol}
 use Rattle.src_lexer.specs.declared.token.TokenKind.{TokenKind}
 use Rattle.src_lexer.specs.declared.token.TokenKind.TheVariants.{Name, Number, Word, Sym}
 use Rattle.src_lexer.specs.declared.token.Token.{Token}
-use Rattle.src_lexer.specs.declared.token.Start.{Start}
-use Rattle.src_lexer.specs.declared.token.Start.TheVariants as c
 use Rattle.src_lexer.specs.declared.fault.LexFault.{LexFault}
 use Rattle.src_lexer.specs.declared.fault.LexFault.TheVariants as f
-use Rattle.src_lexer.specs.Symbols.{symbol_of, word_of}
-use Rattle.src_lexer.specs.Spell.{in_comment, is_name_byte, start, token, value_of, IsSpan, IsSymbol, IsPieceOf, IsPiece, Spells, done, more, AreAllowed, IsFaultAt, Faults, here, later, NoPair}
+use Rattle.src_lexer.specs.Symbols.{word_of}
+use Rattle.src_lexer.specs.Spell.{is_white, begins_comment, in_comment, token, value_of, IsSpan, IsSymbol, Begins, IsPiece, white, comment, word, number, symbol, Spells, done, more, AreAllowed, IsFaultAt, Faults, here, later}
+use Rattle.src_lexer.specs.Scanning.{OnlySymbol, NoPair}
+use Rattle.bm_base.specs.Names.{begins_name, goes_on_name}
+use Rattle.bm_base.specs.declared.limits.TheConstants.{MOST_NAME_BYTES}
 use Rattle.src_lexer.specs.Laws.{Answer, tokens, fault}
-use Rattle.src_lexer.proofs.SymbolFacts.{found, not_found}
+use Rattle.src_lexer.proofs.SymbolFacts.{symbol_of, found, not_found}
 use Rattle.src_lexer.proofs.Unique.{pair_at, single_at, none_at, no_symbol, moves, allowed_append, one_fault, no_fault, rest_faults}
 
 at_most : (m n : ℕ) → (m ≤ n) ⊎ (n < m)
@@ -59,49 +60,51 @@ module _ (src : List ℕ) where
   token_step : (from to : ℕ) (w : TokenKind) → IsPiece src from to (token w from to) → from ≤ to → to ≤ length src → Step from
   token_step from to (Number (pos n)) p o h = elim (at_most (2 ^ 63) n) [ inl k ↦ bad (f.LongNumber from) (refl, to, n, p, k) | inr k ↦ piece p (k, tt) h ]
   token_step from to (Number (negsuc n)) p o h = piece p (tt, tt) h
-  token_step from to Name p o h = elim (at_most (to - from) 64) [ inl k ↦ piece p (k, tt) h | inr k ↦ bad (f.LongName from (to - from)) (refl, to, p, omega arith, k) ]
+  token_step from to Name p o h = elim (at_most (to - from) MOST_NAME_BYTES) [ inl k ↦ piece p (k, tt) h | inr k ↦ bad (f.LongName from (to - from)) (refl, to, p, omega arith, k) ]
   token_step from to (Word k) p o h = piece p (tt, tt) h
   token_step from to (Sym k) p o h = piece p (tt, tt) h
 
-  piece_of : (k : Start) (from to : ℕ) (ts : List Token) → start (slice_index src from) ≡ k → from < length src → IsPieceOf src k from to ts → IsPiece src from to ts
-  piece_of k from to ts e h p = let P : Start → Type 0 = λ z. IsPieceOf src z from to ts in record { here = h; piece = subst P (sym e) p }
+  symbol_step : (from to : ℕ) (k : Symbol) → IsSymbol src from to k → Step from
+  symbol_step from to k s = let o = s.ordered in token_step from to (Sym k) (symbol k s refl) (omega arith) s.within
 
-  symbol_step : (from to : ℕ) (k : Symbol) → start (slice_index src from) ≡ c.Mark → from < length src → IsSymbol src from to k → Step from
-  symbol_step from to k e h s =
-      let o = s.ordered in
-      token_step from to (Sym k) (piece_of c.Mark from to (token (Sym k) from to) e h (k, s, refl)) (omega arith) s.within
-
-  single_step : (from : ℕ) → start (slice_index src from) ≡ c.Mark → from < length src → NoPair src from → (k : Option Symbol) → symbol_of (slice_range src from (from + 1)) ≡ k → Step from
-  single_step from e h n (Some k) g = symbol_step from (from + 1) k e h (single_at src from n k h (found (slice_range src from (from + 1)) k g))
+  single_step : (from : ℕ) → OnlySymbol (slice_index src from) → from < length src → NoPair src from → (k : Option Symbol) → symbol_of (slice_range src from (from + 1)) ≡ k → Step from
+  single_step from e h n (Some k) g = symbol_step from (from + 1) k (single_at src from n k h (found (slice_range src from (from + 1)) k g))
   single_step from e h n None g = bad (f.BadByte from) (refl, h, no_symbol src from e (none_at src from n (not_found (slice_range src from (from + 1)) g)))
 
-  pair_step : (from : ℕ) → start (slice_index src from) ≡ c.Mark → from < length src → from + 2 ≤ length src → (k : Option Symbol) → symbol_of (slice_range src from (from + 2)) ≡ k → Step from
-  pair_step from e h l (Some k) g = symbol_step from (from + 2) k e h (pair_at src from k l (found (slice_range src from (from + 2)) k g))
+  pair_step : (from : ℕ) → OnlySymbol (slice_index src from) → from < length src → from + 2 ≤ length src → (k : Option Symbol) → symbol_of (slice_range src from (from + 2)) ≡ k → Step from
+  pair_step from e h l (Some k) g = symbol_step from (from + 2) k (pair_at src from k l (found (slice_range src from (from + 2)) k g))
   pair_step from e h l None g =
       let n : NoPair src from = record { pair = λ k m. not_found (slice_range src from (from + 2)) g k } in
       single_step from e h n (symbol_of (slice_range src from (from + 1))) refl
 
-  mark_step : (from : ℕ) → start (slice_index src from) ≡ c.Mark → from < length src → Step from
+  mark_step : (from : ℕ) → OnlySymbol (slice_index src from) → from < length src → Step from
   mark_step from e h = elim (at_most (from + 2) (length src)) [
     | inl l ↦ pair_step from e h l (symbol_of (slice_range src from (from + 2))) refl
     | inr l ↦ single_step from e h (record { pair = λ k m. absurd (omega arith) }) (symbol_of (slice_range src from (from + 1))) refl
   ]
 
-  step_of : (k : Start) (from : ℕ) → start (slice_index src from) ≡ k → from < length src → Step from
-  step_of c.White from e h = piece (piece_of c.White from (suc from) [] e h (refl, refl)) tt (omega arith)
-  step_of c.Comment from e h =
-      let r = span_from in_comment (length src - from) from (omega arith) in
-      piece (piece_of c.Comment from r.to [] e h (r.span, refl)) tt r.span.within
-  step_of c.Letter from e h =
-      let r = span_from is_name_byte (length src - from) from (omega arith) in
-      let w : TokenKind = word_of (slice_range src from r.to) in
-      token_step from r.to w (piece_of c.Letter from r.to (token w from r.to) e h (r.span, refl)) r.span.ordered r.span.within
-  step_of c.Digit from e h =
+  comment_step : (from : ℕ) → Begins src begins_comment from → Step from
+  comment_step from g = let h = g.here in let r = span_from in_comment (length src - from) from (omega arith) in piece (comment g r.span refl) tt r.span.within
+
+  word_step : (from : ℕ) → Begins src begins_name from → Step from
+  word_step from g =
+      let h = g.here in
+      let r = span_from goes_on_name (length src - from) from (omega arith) in
+      token_step from r.to (word_of (slice_range src from r.to)) (word g r.span refl) r.span.ordered r.span.within
+
+  number_step : (from : ℕ) → Begins src is_ascii_digit from → Step from
+  number_step from g =
+      let h = g.here in
       let r = span_from is_ascii_digit (length src - from) from (omega arith) in
-      let w : TokenKind = Number (pos (value_of (slice_range src from r.to))) in
-      token_step from r.to w (piece_of c.Digit from r.to (token w from r.to) e h (r.span, refl)) r.span.ordered r.span.within
-  step_of c.Mark from e h = mark_step from e h
-  step_of c.Other from e h = bad (f.BadByte from) (refl, h, λ to ts p. let P : Start → Type 0 = λ z. IsPieceOf src z from to ts in subst P e p.piece)
+      token_step from r.to (Number (pos (value_of (slice_range src from r.to)))) (number g r.span refl) r.span.ordered r.span.within
+
+  step_of : (from : ℕ) → from < length src → (w h a d : Bool) → is_white (slice_index src from) ≡ w → begins_comment (slice_index src from) ≡ h →
+      begins_name (slice_index src from) ≡ a → is_ascii_digit (slice_index src from) ≡ d → Step from
+  step_of from i true h a d ew eh ea ed = piece (white (record { here = i; passes = ew }) refl refl) tt (omega arith)
+  step_of from i false true a d ew eh ea ed = comment_step from (record { here = i; passes = eh })
+  step_of from i false false true d ew eh ea ed = word_step from (record { here = i; passes = ea })
+  step_of from i false false false true ew eh ea ed = number_step from (record { here = i; passes = ed })
+  step_of from i false false false false ew eh ea ed = mark_step from (record { white = ew; comment = eh; name = ea; digit = ed }) i
 
   -- what stands from a place on
   data Rest (from : ℕ) : Type 0 where
@@ -123,7 +126,7 @@ module _ (src : List ℕ) where
   walk zero from e h = at_end from (omega arith)
   walk (suc n) from e h = elim (at_most (length src) from) [
     | inl k ↦ at_end from (omega arith)
-    | inr k ↦ go_on from (λ to m l. walk n to (omega arith) l) (step_of (start (slice_index src from)) from refl k)
+    | inr k ↦ go_on from (λ to m l. walk n to (omega arith) l) (step_of from k _ _ _ _ refl refl refl refl)
   ]
 
   answer_of : Rest 0 → Answer src

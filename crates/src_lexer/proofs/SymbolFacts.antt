@@ -1,9 +1,21 @@
 -- Symbols by their bytes, both ways.
-use Rattle.std.proofs.Common.{◌≡◌, ℕ, ◌≤◌, Bool, true, false, cond, List, [], ◌∷◌, length, Option, Some, None, refl, ap, sym, subst, ◌∙◌, T, eqb→eq, lit≤, MatchOption}
-use Rattle.std.specs.Prelude.{◌==◌}
+use Rattle.std.proofs.Common.{◌≡◌, ℕ, ◌<◌, ◌≤◌, Bool, true, false, List, [], ◌∷◌, length, get_or, Option, Some, None, refl, ap, sym, ◌∙◌, lit≤, arith}
+use Rattle.std.proofs.lemmas.Slice.Eq.{bytes_eq-Decides}
+use Rattle.std.specs.Prelude.{if◌then◌else◌}
+use Rattle.std.specs.Str.{bytes_eq}
+use Rattle.src_lexer.specs.declared.token.TheConstants.{SYMBOLS}
 use Rattle.src_lexer.specs.declared.token.Symbol.{Symbol}
 use Rattle.src_lexer.specs.declared.token.Symbol.TheVariants as y
-use Rattle.src_lexer.specs.Symbols.{spelling, symbol_of, single_of, pair_of}
+use Rattle.src_lexer.specs.Symbols.{spelling}
+
+-- the first of these symbols that is written so, if any
+abbrev search : List ℕ → List Symbol → Option Symbol
+search bs [] = None
+search bs (k ∷ ks) = if bytes_eq bs (spelling k) then Some k else search bs ks
+
+-- the symbol that is written so, if any
+abbrev pub symbol_of : List ℕ → Option Symbol
+symbol_of bs = search bs SYMBOLS
 
 pub symbol_of-spelling : (k : Symbol) → symbol_of (spelling k) ≡ Some k
 symbol_of-spelling y.Semi = refl
@@ -59,60 +71,50 @@ short y.Div = lit≤ tt
 short y.Rem = lit≤ tt
 short y.Not = lit≤ tt
 
-branch : (t : Bool) (x y : Option Symbol) (k : Symbol) (Q : Type 0) → (t ≡ true → x ≡ Some k → Q) → (y ≡ Some k → Q) → cond t x y ≡ Some k → Q
-branch true x y k Q f g h = f refl h
-branch false x y k Q f g h = g h
+-- a symbol's place in the table
+pub record Listed (k : Symbol) : Type 0 where
+  pub at : ℕ
+  pub low : at < 25
+  pub is : get_or SYMBOLS at y.Semi ≡ k
 
-same : (b c : ℕ) → b == c ≡ true → b ≡ c
-same b c t = eqb→eq b c (let P : Bool → Type 0 = T in subst P (sym t) tt)
+pub listed : (k : Symbol) → Listed k
+listed y.Semi = record { at = 0; low = omega arith; is = refl }
+listed y.Assign = record { at = 1; low = omega arith; is = refl }
+listed y.LBracket = record { at = 2; low = omega arith; is = refl }
+listed y.RBracket = record { at = 3; low = omega arith; is = refl }
+listed y.LBrace = record { at = 4; low = omega arith; is = refl }
+listed y.RBrace = record { at = 5; low = omega arith; is = refl }
+listed y.LParen = record { at = 6; low = omega arith; is = refl }
+listed y.RParen = record { at = 7; low = omega arith; is = refl }
+listed y.Or = record { at = 8; low = omega arith; is = refl }
+listed y.Xor = record { at = 9; low = omega arith; is = refl }
+listed y.And = record { at = 10; low = omega arith; is = refl }
+listed y.Eq = record { at = 11; low = omega arith; is = refl }
+listed y.Ne = record { at = 12; low = omega arith; is = refl }
+listed y.Lt = record { at = 13; low = omega arith; is = refl }
+listed y.Le = record { at = 14; low = omega arith; is = refl }
+listed y.Gt = record { at = 15; low = omega arith; is = refl }
+listed y.Ge = record { at = 16; low = omega arith; is = refl }
+listed y.Shl = record { at = 17; low = omega arith; is = refl }
+listed y.Shr = record { at = 18; low = omega arith; is = refl }
+listed y.Add = record { at = 19; low = omega arith; is = refl }
+listed y.Sub = record { at = 20; low = omega arith; is = refl }
+listed y.Mul = record { at = 21; low = omega arith; is = refl }
+listed y.Div = record { at = 22; low = omega arith; is = refl }
+listed y.Rem = record { at = 23; low = omega arith; is = refl }
+listed y.Not = record { at = 24; low = omega arith; is = refl }
 
-one : (b c : ℕ) (s k : Symbol) → spelling s ≡ c ∷ [] → b == c ≡ true → Some s ≡ Some k → b ∷ [] ≡ spelling k
-one b c s k m t e = let x : s ≡ k = cc in ap (λ z. z ∷ []) (same b c t) ∙ sym m ∙ ap spelling x
+written : (b : Bool) (k j : Symbol) (bs : List ℕ) (r : Option Symbol) → bytes_eq bs (spelling j) ≡ b → (r ≡ Some k → bs ≡ spelling k) →
+    (if b then Some j else r) ≡ Some k → bs ≡ spelling k
+written true k j bs r e f h = let x : j ≡ k = cc in (bytes_eq-Decides bs (spelling j)).0 e ∙ ap spelling x
+written false k j bs r e f h = f h
 
-two : (a b c d : ℕ) (s k : Symbol) → spelling s ≡ c ∷ d ∷ [] → a == c ≡ true → b == d ≡ true → Some s ≡ Some k → a ∷ b ∷ [] ≡ spelling k
-two a b c d s k m t u e = let x : s ≡ k = cc in ap (λ z. z ∷ b ∷ []) (same a c t) ∙ ap (λ z. c ∷ z ∷ []) (same b d u) ∙ sym m ∙ ap spelling x
-
-none : (k : Symbol) (Q : Type 0) → None ≡ Some k → Q
-none k Q e = absurd cc
-
-single : (b : ℕ) (k : Symbol) → single_of b ≡ Some k → b ∷ [] ≡ spelling k
-single b k =
-    let Q : Type 0 = b ∷ [] ≡ spelling k in
-    branch (b == 59) _ _ k Q (one b 59 y.Semi k refl) (
-    branch (b == 61) _ _ k Q (one b 61 y.Assign k refl) (
-    branch (b == 91) _ _ k Q (one b 91 y.LBracket k refl) (
-    branch (b == 93) _ _ k Q (one b 93 y.RBracket k refl) (
-    branch (b == 123) _ _ k Q (one b 123 y.LBrace k refl) (
-    branch (b == 125) _ _ k Q (one b 125 y.RBrace k refl) (
-    branch (b == 40) _ _ k Q (one b 40 y.LParen k refl) (
-    branch (b == 41) _ _ k Q (one b 41 y.RParen k refl) (
-    branch (b == 124) _ _ k Q (one b 124 y.Or k refl) (
-    branch (b == 94) _ _ k Q (one b 94 y.Xor k refl) (
-    branch (b == 38) _ _ k Q (one b 38 y.And k refl) (
-    branch (b == 60) _ _ k Q (one b 60 y.Lt k refl) (
-    branch (b == 62) _ _ k Q (one b 62 y.Gt k refl) (
-    branch (b == 43) _ _ k Q (one b 43 y.Add k refl) (
-    branch (b == 45) _ _ k Q (one b 45 y.Sub k refl) (
-    branch (b == 42) _ _ k Q (one b 42 y.Mul k refl) (
-    branch (b == 47) _ _ k Q (one b 47 y.Div k refl) (
-    branch (b == 37) _ _ k Q (one b 37 y.Rem k refl) (
-    branch (b == 126) _ _ k Q (one b 126 y.Not k refl) (
-    none k Q)))))))))))))))))))
-
-pair : (a b : ℕ) (k : Symbol) → pair_of a b ≡ Some k → a ∷ b ∷ [] ≡ spelling k
-pair a b k =
-    let Q : Type 0 = a ∷ b ∷ [] ≡ spelling k in
-    branch (a == 61) _ _ k Q (λ t. branch (b == 61) _ _ k Q (two a b 61 61 y.Eq k refl t) (none k Q)) (
-    branch (a == 33) _ _ k Q (λ t. branch (b == 61) _ _ k Q (two a b 33 61 y.Ne k refl t) (none k Q)) (
-    branch (a == 60) _ _ k Q (λ t. branch (b == 61) _ _ k Q (two a b 60 61 y.Le k refl t) (branch (b == 60) _ _ k Q (two a b 60 60 y.Shl k refl t) (none k Q))) (
-    branch (a == 62) _ _ k Q (λ t. branch (b == 61) _ _ k Q (two a b 62 61 y.Ge k refl t) (branch (b == 62) _ _ k Q (two a b 62 62 y.Shr k refl t) (none k Q))) (
-    none k Q))))
+searched : (bs : List ℕ) (ks : List Symbol) (k : Symbol) → search bs ks ≡ Some k → bs ≡ spelling k
+searched bs [] k e = absurd cc
+searched bs (j ∷ js) k e = written (bytes_eq bs (spelling j)) k j bs (search bs js) refl (searched bs js k) e
 
 pub found : (bs : List ℕ) (k : Symbol) → symbol_of bs ≡ Some k → bs ≡ spelling k
-found [] k e = absurd cc
-found (b ∷ []) k e = single b k e
-found (a ∷ b ∷ []) k e = pair a b k e
-found (a ∷ b ∷ c ∷ ds) k e = absurd cc
+found bs k e = searched bs SYMBOLS k e
 
 pub not_found : (bs : List ℕ) → symbol_of bs ≡ None → (k : Symbol) → bs ≡ spelling k → ⊥
 not_found bs e k h = let x : None ≡ Some k = sym e ∙ ap symbol_of h ∙ symbol_of-spelling k in cc
@@ -120,6 +122,6 @@ not_found bs e k h = let x : None ≡ Some k = sym e ∙ ap symbol_of h ∙ symb
 pub one_symbol : (bs : List ℕ) (j k : Symbol) → bs ≡ spelling j → bs ≡ spelling k → j ≡ k
 one_symbol bs j k g h = let x : Some j ≡ Some k = sym (symbol_of-spelling j) ∙ ap symbol_of (sym g ∙ h) ∙ symbol_of-spelling k in cc
 
-pub matched : (bs : List ℕ) (r : Option Symbol) → r ≡ symbol_of bs → MatchOption r ((k : Symbol) → bs ≡ spelling k → ⊥) (λ k. bs ≡ spelling k)
-matched bs None e = not_found bs (sym e)
-matched bs (Some k) e = found bs k (sym e)
+-- where no symbol of the table is written so, none is
+pub none_of : (bs : List ℕ) → ((i : ℕ) → i < 25 → bs ≡ spelling (get_or SYMBOLS i y.Semi) → ⊥) → (k : Symbol) → bs ≡ spelling k → ⊥
+none_of bs h k e = let l = listed k in h l.at l.low (e ∙ ap spelling (sym l.is))

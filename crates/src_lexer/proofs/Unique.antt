@@ -1,23 +1,20 @@
 -- A text spells one row of tokens, or has one first fault.
-use Rattle.std.proofs.Common.{◌≡◌, ℕ, suc, ◌+◌, ◌-◌, ◌*◌, ◌^◌, ◌<◌, ◌≤◌, ◌⊎◌, inl, inr, pos, Bool, true, false, cond, ◌||◌, List, [], ◌∷◌, ◌++◌, length, get_or, refl, ap, sym, subst, ◌∙◌, arith, drop, drop-cons, T, append_assoc, length-take, length-drop, eqb→eq}
+use Rattle.std.proofs.Common.{◌≡◌, ℕ, suc, ◌+◌, ◌<◌, ◌≤◌, ◌⊎◌, inl, inr, pos, Bool, true, false, List, [], ◌∷◌, ◌++◌, length, refl, ap, sym, subst, ◌∙◌, arith, append_assoc, length-take, length-drop}
 use Rattle.std.proofs.lemmas.List.{append-nil}
-use Rattle.std.specs.Char.{is_ascii_digit, is_ascii_alphabetic}
-use Rattle.std.specs.Prelude.{slice_range, slice_index, ◌==◌}
+use Rattle.std.specs.Char.{is_ascii_digit}
+use Rattle.std.specs.Prelude.{slice_range, slice_index}
 use Rattle.src_lexer.specs.declared.token.Symbol.{Symbol}
 use Rattle.src_lexer.specs.declared.token.TokenKind.{TokenKind}
 use Rattle.src_lexer.specs.declared.token.TokenKind.TheVariants.{Name, Number, Sym}
 use Rattle.src_lexer.specs.declared.token.Token.{Token}
-use Rattle.src_lexer.specs.declared.token.Start.{Start}
-use Rattle.src_lexer.specs.declared.token.Start.TheVariants as c
 use Rattle.src_lexer.specs.declared.fault.LexFault.{LexFault}
 use Rattle.src_lexer.specs.declared.fault.LexFault.TheVariants as f
 use Rattle.src_lexer.specs.Symbols.{spelling, word_of}
-use Rattle.src_lexer.specs.Spell.{start, IsSpan, IsSymbol, IsPieceOf, IsPiece, Spells, done, more, token, value_of, value_from, AreAllowed, IsFaultAt, Faults, here, later, NoPair, is_name_byte, in_comment, is_white, is_mark}
+use Rattle.src_lexer.specs.Spell.{IsSpan, IsSymbol, Begins, IsPiece, white, comment, word, number, symbol, Spells, done, more, token, value_of, AreAllowed, IsFaultAt, Faults, here, later, begins_comment, in_comment, is_white}
+use Rattle.src_lexer.specs.Scanning.{OnlySymbol, NoPair}
+use Rattle.bm_base.specs.Names.{begins_name, goes_on_name}
+use Rattle.src_lexer.proofs.First.{white_no_comment, white_no_name, white_no_digit, comment_no_name, comment_no_digit, name_no_digit, comment_goes_on, name_goes_on, symbol_no_white, symbol_no_comment, symbol_no_name, symbol_no_digit}
 use Rattle.src_lexer.proofs.SymbolFacts.{short, one_symbol}
-
-pub value-from_least : (n : ℕ) (bs : List ℕ) → n ≤ value_from n bs
-value-from_least n [] = omega arith
-value-from_least n (b ∷ bs) = omega (arith, value-from_least (10 * n + (b - 48)) bs)
 
 at_most : (a b : ℕ) → (a ≤ b) ⊎ (b < a)
 at_most a b = grind arith
@@ -40,23 +37,68 @@ module _ (src : List ℕ) where
     pub to : a ≡ b
     pub tokens : ts ≡ us
 
-  one_piece_of : (k : Start) (from a b : ℕ) (ts us : List Token) → IsPieceOf src k from a ts → IsPieceOf src k from b us → Same a b ts us
-  one_piece_of c.White from a b ts us p q = record { to = p.0 ∙ sym q.0; tokens = p.1 ∙ sym q.1 }
-  one_piece_of c.Comment from a b ts us p q = record { to = one_span p.0 q.0; tokens = p.1 ∙ sym q.1 }
-  one_piece_of c.Letter from a b ts us p q = let e = one_span p.0 q.0 in record { to = e; tokens = p.1 ∙ ap (λ (z : ℕ). token (word_of (slice_range src from z)) from z) e ∙ sym q.1 }
-  one_piece_of c.Digit from a b ts us p q = let e = one_span p.0 q.0 in record { to = e; tokens = p.1 ∙ ap (λ (z : ℕ). token (Number (pos (value_of (slice_range src from z)))) from z) e ∙ sym q.1 }
-  one_piece_of c.Mark from a b ts us p q =
-      let e = one_end p.1 q.1 in
-      let same : p.0 ≡ q.0 = one_symbol (slice_range src from a) p.0 q.0 (p.1).spelled (ap (λ (z : ℕ). slice_range src from z) e ∙ (q.1).spelled) in
-      record { to = e; tokens = p.2 ∙ ap (λ (z : ℕ). token (Sym p.0) from z) e ∙ ap (λ k. token (Sym k) from b) same ∙ sym q.2 }
-  one_piece_of c.Other from a b ts us p q = absurd p
+  module _ {from b : ℕ} {us : List Token} where
+    one_white : Begins src is_white from → IsPiece src from b us → Same (suc from) b [] us
+    one_white g (white h e t) = record { to = sym e; tokens = sym t }
+    one_white g (comment h s t) = absurd (white_no_comment (slice_index src from) g.passes h.passes)
+    one_white g (word h s t) = absurd (white_no_name (slice_index src from) g.passes h.passes)
+    one_white g (number h s t) = absurd (white_no_digit (slice_index src from) g.passes h.passes)
+    one_white g (symbol k s t) = absurd (symbol_no_white src s g.passes)
+
+    one_comment : {a : ℕ} → Begins src begins_comment from → IsSpan src in_comment from a → IsPiece src from b us → Same a b [] us
+    one_comment g r (white h e t) = absurd (white_no_comment (slice_index src from) h.passes g.passes)
+    one_comment g r (comment h s t) = record { to = one_span r s; tokens = sym t }
+    one_comment g r (word h s t) = absurd (comment_no_name (slice_index src from) g.passes h.passes)
+    one_comment g r (number h s t) = absurd (comment_no_digit (slice_index src from) g.passes h.passes)
+    one_comment g r (symbol k s t) = absurd (symbol_no_comment src s g.passes)
+
+    one_word : {a : ℕ} → Begins src begins_name from → IsSpan src goes_on_name from a → IsPiece src from b us → Same a b (token (word_of (slice_range src from a)) from a) us
+    one_word g r (white h e t) = absurd (white_no_name (slice_index src from) h.passes g.passes)
+    one_word g r (comment h s t) = absurd (comment_no_name (slice_index src from) h.passes g.passes)
+    one_word g r (word h s t) = let e = one_span r s in record { to = e; tokens = ap (λ (z : ℕ). token (word_of (slice_range src from z)) from z) e ∙ sym t }
+    one_word g r (number h s t) = absurd (name_no_digit (slice_index src from) g.passes h.passes)
+    one_word g r (symbol k s t) = absurd (symbol_no_name src s g.passes)
+
+    one_number : {a : ℕ} → Begins src is_ascii_digit from → IsSpan src is_ascii_digit from a → IsPiece src from b us →
+        Same a b (token (Number (pos (value_of (slice_range src from a)))) from a) us
+    one_number g r (white h e t) = absurd (white_no_digit (slice_index src from) h.passes g.passes)
+    one_number g r (comment h s t) = absurd (comment_no_digit (slice_index src from) h.passes g.passes)
+    one_number g r (word h s t) = absurd (name_no_digit (slice_index src from) h.passes g.passes)
+    one_number g r (number h s t) =
+        let e = one_span r s in record { to = e; tokens = ap (λ (z : ℕ). token (Number (pos (value_of (slice_range src from z)))) from z) e ∙ sym t }
+    one_number g r (symbol k s t) = absurd (symbol_no_digit src s g.passes)
+
+    one_sign : {a : ℕ} (j : Symbol) → IsSymbol src from a j → IsPiece src from b us → Same a b (token (Sym j) from a) us
+    one_sign j r (white h e t) = absurd (symbol_no_white src r h.passes)
+    one_sign j r (comment h s t) = absurd (symbol_no_comment src r h.passes)
+    one_sign j r (word h s t) = absurd (symbol_no_name src r h.passes)
+    one_sign j r (number h s t) = absurd (symbol_no_digit src r h.passes)
+    one_sign {a} j r (symbol k s t) =
+        let e = one_end r s in
+        let same : j ≡ k = one_symbol (slice_range src from a) j k r.spelled (ap (λ (z : ℕ). slice_range src from z) e ∙ s.spelled) in
+        record { to = e; tokens = ap (λ (z : ℕ). token (Sym j) from z) e ∙ ap (λ z. token (Sym z) from b) same ∙ sym t }
+
+  as_well : {a a' b : ℕ} {ts ts' us : List Token} → a ≡ a' → ts ≡ ts' → Same a' b ts' us → Same a b ts us
+  as_well e t s = record { to = e ∙ s.to; tokens = t ∙ s.tokens }
 
   pub one_piece : {from a b : ℕ} {ts us : List Token} → IsPiece src from a ts → IsPiece src from b us → Same a b ts us
-  one_piece {from} {a} {b} {ts} {us} p q = one_piece_of (start (slice_index src from)) from a b ts us p.piece q.piece
+  one_piece (white h e t) q = as_well e t (one_white h q)
+  one_piece (comment h s t) q = as_well refl t (one_comment h s q)
+  one_piece (word h s t) q = as_well refl t (one_word h s q)
+  one_piece (number h s t) q = as_well refl t (one_number h s q)
+  one_piece (symbol k s t) q = as_well refl t (one_sign k s q)
+
+  -- a piece begins within the text
+  pub inside : {from to : ℕ} {ts : List Token} → IsPiece src from to ts → from < length src
+  inside (white h e t) = h.here
+  inside (comment h s t) = h.here
+  inside (word h s t) = h.here
+  inside (number h s t) = h.here
+  inside (symbol k s t) = omega (arith, s.ordered, s.within)
 
   -- what is spelled from here, behind a piece
   pub rest_spells : {from to : ℕ} {ts us : List Token} → IsPiece src from to ts → Spells src from us → (vs : List Token) × Spells src to vs × (us ≡ ts ++ vs)
-  rest_spells p done = absurd (omega (arith, p.here))
+  rest_spells p done = absurd (omega (arith, inside p))
   rest_spells {from} {to} {ts} p (more {to = b} {ts = xs} {us = vs} q r) =
       let e : Same to b ts xs = one_piece p q in
       let P : ℕ → Type 0 = λ z. Spells src z vs in
@@ -64,7 +106,7 @@ module _ (src : List ℕ) where
 
   at_end : {from : ℕ} {us : List Token} → length src ≤ from → Spells src from us → us ≡ []
   at_end h done = refl
-  at_end h (more p s) = absurd (omega (arith, h, p.here))
+  at_end h (more p s) = absurd (omega (arith, h, inside p))
 
   pub one_spelling : {from : ℕ} {ts us : List Token} → Spells src from ts → Spells src from us → ts ≡ us
   one_spelling done s = sym (at_end (omega arith) s)
@@ -118,42 +160,16 @@ module _ (src : List ℕ) (from : ℕ) where
       decide (inl h) = let same : from + 1 ≡ to = omega (arith, h, s.ordered) in e k (ap (λ z. slice_range src from z) same ∙ s.spelled)
       decide (inr h) = longer n to k h s.within s.spelled
 
-pub too_large : (v i : ℕ) (ds : List ℕ) → i < length ds → 922337203685477580 < v → 2 ^ 63 ≤ value_from v (drop i ds)
-too_large v i ds h big = rw (drop-cons ds i 0) (omega (arith, value-from_least (10 * v + (get_or ds i 0 - 48)) (drop (suc i) ds)))
+fails : {b : Bool} → b ≡ false → b ≡ true → ⊥
+fails f t = let x : true ≡ false = sym t ∙ f in cc
 
 -- where a symbol must begin and none does, no piece begins
-pub no_symbol : (src : List ℕ) (from : ℕ) → start (slice_index src from) ≡ c.Mark → ((to : ℕ) (k : Symbol) → IsSymbol src from to k → ⊥) → (to : ℕ) (ts : List Token) → IsPiece src from to ts → ⊥
-no_symbol src from e n to ts p =
-    let P : Start → Type 0 = λ k. IsPieceOf src k from to ts in
-    let q : IsPieceOf src c.Mark from to ts = subst P e p.piece in
-    n to q.0 q.1
-
--- what is known of a byte by what it begins
-letter : (w h a u d m : Bool) → cond w c.White (cond h c.Comment (cond (a || u) c.Letter (cond d c.Digit (cond m c.Mark c.Other)))) ≡ c.Letter → (a || d) || u ≡ true
-letter true h a u d m e = cc
-letter false true a u d m e = cc
-letter false false true u d m e = refl
-letter false false false true true m e = refl
-letter false false false true false m e = refl
-letter false false false false true m e = cc
-letter false false false false false true e = cc
-letter false false false false false false e = cc
-
-digit : (w h a d m : Bool) → cond w c.White (cond h c.Comment (cond a c.Letter (cond d c.Digit (cond m c.Mark c.Other)))) ≡ c.Digit → d ≡ true
-digit true h a d m e = cc
-digit false true a d m e = cc
-digit false false true d m e = cc
-digit false false false true m e = refl
-digit false false false false true e = cc
-digit false false false false false e = cc
-
-comment : (w h a d m : Bool) → cond w c.White (cond h c.Comment (cond a c.Letter (cond d c.Digit (cond m c.Mark c.Other)))) ≡ c.Comment → h ≡ true
-comment true h a d m e = cc
-comment false true a d m e = refl
-comment false false true d m e = cc
-comment false false false true m e = cc
-comment false false false false true e = cc
-comment false false false false false e = cc
+pub no_symbol : (src : List ℕ) (from : ℕ) → OnlySymbol (slice_index src from) → ((to : ℕ) (k : Symbol) → IsSymbol src from to k → ⊥) → (to : ℕ) (ts : List Token) → IsPiece src from to ts → ⊥
+no_symbol src from o n to ts (white h e t) = fails o.white h.passes
+no_symbol src from o n to ts (comment h s t) = fails o.comment h.passes
+no_symbol src from o n to ts (word h s t) = fails o.name h.passes
+no_symbol src from o n to ts (number h s t) = fails o.digit h.passes
+no_symbol src from o n to ts (symbol k s t) = n to k s
 
 module _ (src : List ℕ) where
   span_moves : (p : ℕ → Bool) (from to : ℕ) → IsSpan src p from to → from < length src → p (slice_index src from) ≡ true → from < to
@@ -163,20 +179,12 @@ module _ (src : List ℕ) where
       decide (inl k) = let same : to ≡ from = omega (arith, s.ordered) in let x = sym e ∙ ap (λ z. p (slice_index src z)) (sym same) ∙ s.ends (omega arith) in cc
       decide (inr k) = k
 
-  moves_of : (k : Start) (from to : ℕ) (ts : List Token) → start (slice_index src from) ≡ k → from < length src → IsPieceOf src k from to ts → from < to
-  moves_of c.White from to ts e h p = omega (arith, p.0)
-  moves_of c.Comment from to ts e h p =
-      let b : ℕ = slice_index src from in
-      let is : b == 35 ≡ true = comment (is_white b) (b == 35) (is_ascii_alphabetic b || b == 95) (is_ascii_digit b) (is_mark b) e in
-      let same : b ≡ 35 = eqb→eq b 35 (let P : Bool → Type 0 = T in subst P (sym is) tt) in
-      span_moves in_comment from to p.0 h (ap in_comment same)
-  moves_of c.Letter from to ts e h p = span_moves is_name_byte from to p.0 h (let b : ℕ = slice_index src from in letter (is_white b) (b == 35) (is_ascii_alphabetic b) (b == 95) (is_ascii_digit b) (is_mark b) e)
-  moves_of c.Digit from to ts e h p = span_moves is_ascii_digit from to p.0 h (let b : ℕ = slice_index src from in digit (is_white b) (b == 35) (is_ascii_alphabetic b || b == 95) (is_ascii_digit b) (is_mark b) e)
-  moves_of c.Mark from to ts e h p = (p.1).ordered
-  moves_of c.Other from to ts e h p = absurd p
-
   pub moves : (from to : ℕ) (ts : List Token) → IsPiece src from to ts → from < to
-  moves from to ts p = moves_of (start (slice_index src from)) from to ts refl p.here p.piece
+  moves from to ts (white h e t) = omega (arith, e)
+  moves from to ts (comment h s t) = span_moves in_comment from to s h.here (comment_goes_on (slice_index src from) h.passes)
+  moves from to ts (word h s t) = span_moves goes_on_name from to s h.here (name_goes_on (slice_index src from) h.passes)
+  moves from to ts (number h s t) = span_moves is_ascii_digit from to s h.here h.passes
+  moves from to ts (symbol k s t) = s.ordered
 
 pub allowed_append : (src : List ℕ) (ts us : List Token) → AreAllowed src ts → AreAllowed src us → AreAllowed src (ts ++ us)
 allowed_append src [] us a b = b
@@ -225,13 +233,13 @@ allowed_front src (t ∷ ts) us a = (a.0, allowed_front src ts us a.1)
 module _ (src : List ℕ) where
   end_fault : (from : ℕ) (e : LexFault) → length src ≤ from → IsFaultAt src from e → ⊥
   end_fault from (f.BadByte at) k h = omega arith
-  end_fault from (f.LongNumber at) k (x, to, n, p, big) = omega (arith, p.here)
-  end_fault from (f.LongName at len) k (x, to, p, e, big) = omega (arith, p.here)
+  end_fault from (f.LongNumber at) k (x, to, n, p, big) = omega (arith, inside src p)
+  end_fault from (f.LongName at len) k (x, to, p, e, big) = omega (arith, inside src p)
   end_fault from f.Memory k h = absurd h
 
   pub no_end : {e : LexFault} (from : ℕ) → length src ≤ from → Faults src from e → ⊥
   no_end {e = e} from k (here h) = end_fault from e k h
-  no_end from k (later p a r) = omega (arith, p.here)
+  no_end from k (later p a r) = omega (arith, inside src p)
 
   -- what is spelled within the limits has no fault
   pub no_fault : {from : ℕ} {ts : List Token} (e : LexFault) → Spells src from ts → AreAllowed src ts → Faults src from e → ⊥

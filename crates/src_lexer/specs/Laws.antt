@@ -1,12 +1,13 @@
 -- What holds of every text and the tokens that it spells.
-use Rattle.std.specs.Prelude.{◌≡◌, ℕ, ◌<◌, ◌≤◌, ℤ, pos, true, List, [], ◌∷◌, length, All, slice_range}
+use Rattle.std.specs.Prelude.{◌≡◌, ℕ, ◌<◌, ◌≤◌, ℤ, pos, true, false, List, [], ◌∷◌, length, All, slice_range}
 use Rattle.std.specs.Char.{is_ascii_digit}
 use Rattle.src_lexer.specs.declared.token.TokenKind.{TokenKind}
 use Rattle.src_lexer.specs.declared.token.TokenKind.TheVariants.{Name, Number, Word, Sym}
 use Rattle.src_lexer.specs.declared.token.Token.{Token}
-use Rattle.src_lexer.specs.Symbols.{spelling, keyword, word_of}
+use Rattle.src_lexer.specs.Symbols.{spelling, keyword}
+use Rattle.bm_base.specs.Names.{begins_name, goes_on_name, is_reserved}
 use Rattle.src_lexer.specs.declared.fault.LexFault.{LexFault}
-use Rattle.src_lexer.specs.Spell.{Spells, AreAllowed, Faults, begins_name, is_name_byte, value_of}
+use Rattle.src_lexer.specs.Spell.{Spells, AreAllowed, Faults, value_of}
 
 -- the tokens stand between these places, one behind the other, none empty
 abbrev pub InOrder : ℕ → ℕ → List Token → Type 0
@@ -20,8 +21,8 @@ BeginsName (b ∷ bs) = begins_name b ≡ true
 -- a letter or `_`, then letters, digits and `_`; no reserved word
 pub record IsNameText (bs : List ℕ) : Type 0 where
   pub begins : BeginsName bs
-  pub goes_on : All (λ b. is_name_byte b ≡ true) bs
-  pub free : word_of bs ≡ Name
+  pub goes_on : All (λ b. goes_on_name b ≡ true) bs
+  pub free : is_reserved bs ≡ false
 
 -- digits, one at least, whose value is the number; so the number is 0 or more
 pub record IsNumberText (bs : List ℕ) (v : ℤ) : Type 0 where

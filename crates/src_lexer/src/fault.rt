@@ -1,5 +1,7 @@
 //! Why a text has no tokens.
 
+use crate::token::Token;
+use std::alloc::AllocFailed;
 use thiserror::Error;
 
 /// The first fault of a text, by place. Places and lengths are in bytes.
@@ -28,4 +30,15 @@ pub enum LexFault {
     /// No memory for the tokens.
     #[error("no memory")]
     Memory,
+}
+
+impl From<AllocFailed<Token>> for LexFault {
+    ghost use Rattle.std.specs.Prelude.{◌≡◌};
+    ghost use Rattle.src_lexer.specs.declared.fault.LexFault.TheVariants.{Memory};
+
+    ghost from_gives = { λ _ e. e ≡ Memory };
+
+    fn from(_: AllocFailed<Token>) -> Self {
+        LexFault::Memory
+    }
 }

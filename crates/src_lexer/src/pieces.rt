@@ -1,142 +1,104 @@
 //! One piece of a text: white space, a comment or a token.
 
 ghost use Rattle.std.specs.Prelude.{◌≡◌, ◌≤◌, ◌<◌, ◌+◌, ◌^◌, ◌-◌, length, slice_index, slice_range};
-ghost use Rattle.std.specs.Prelude.{MatchOption, MatchResult, ℕ, pos, true};
+ghost use Rattle.std.specs.Prelude.{MatchOption, MatchResult, ℕ, pos, true, false};
 ghost use Rattle.std.specs.Char.{is_ascii_digit};
 ghost use Rattle.src_lexer.specs.declared.token.Symbol.{Symbol};
-ghost use Rattle.src_lexer.specs.declared.token.Start.{Start};
+ghost use Rattle.bm_base.specs.Names.{begins_name, goes_on_name};
 ghost use Rattle.src_lexer.specs.Spell as spec;
-ghost use Rattle.src_lexer.specs.Spell.{NoPair};
-ghost use Rattle.src_lexer.specs.Symbols.{spelling, symbol_of, word_of};
+ghost use Rattle.src_lexer.specs.Scanning.{OnlySymbol, NoPair};
+ghost use Rattle.src_lexer.specs.Symbols.{spelling, word_of};
 
 use crate::fault::LexFault;
-use crate::token::{Keyword, Start, Symbol, TokenKind};
+use crate::token::{Keyword, SYMBOLS, Symbol, TokenKind};
+use bm_base::{MOST_NAME_BYTES, count};
 
 /// A piece: the place behind it, and the token that it is, if any.
 pub type Piece = (usize, Option<TokenKind>);
 
-fn is_mark(b: u8) -> bool
-    ensures { result ≡ spec.is_mark b }
+fn is_white(b: u8) -> bool
+    ensures { result ≡ spec.is_white b }
 {
-    matches!(
-        b,
-        b';' | b'='
-            | b'['
-            | b']'
-            | b'{'
-            | b'}'
-            | b'('
-            | b')'
-            | b'|'
-            | b'^'
-            | b'&'
-            | b'!'
-            | b'<'
-            | b'>'
-            | b'+'
-            | b'-'
-            | b'*'
-            | b'/'
-            | b'%'
-            | b'~'
-    )
+    matches!(b, b' ' | b'\t' | b'\r' | b'\n')
 }
 
-fn start(b: u8) -> Start
-    ensures { result ≡ spec.start b }
+fn begins_comment(b: u8) -> bool
+    ensures { result ≡ spec.begins_comment b }
 {
-    if b == b' ' || b == b'\t' || b == b'\r' || b == b'\n' {
-        Start::White
-    } else if b == b'#' {
-        Start::Comment
-    } else if b.is_ascii_alphabetic() || b == b'_' {
-        Start::Letter
-    } else if b.is_ascii_digit() {
-        Start::Digit
-    } else if is_mark(b) {
-        Start::Mark
-    } else {
-        Start::Other
+    b == b'#'
+}
+
+fn begins_name_byte(b: u8) -> bool
+    ensures { result ≡ begins_name b }
+{
+    b.is_ascii_alphabetic() || b == b'_'
+}
+
+/// The end of the longest row of bytes from here that such a row is made of.
+fn span_end<F: Fn(u8) -> bool>(src: &[u8], from: usize, goes_on: F) -> usize
+    requires here { from ≤ length src.now }
+    requires any { F.IsAlwaysCallable goes_on }
+    ensures ordered { from ≤ result }
+    ensures within { result ≤ length src.now }
+    ensures each { (i : ℕ) → from ≤ i → i < result → F.post goes_on (slice_index src.now i) true }
+    ensures ends { result < length src.now → F.post goes_on (slice_index src.now result) false }
+{
+    let mut to = from;
+    while to < src.len() && goes_on(src[to]) {
+        to += 1;
     }
+    to
+}
+
+fn is_comment_byte(b: u8) -> bool
+    ensures { result ≡ spec.in_comment b }
+{
+    b != b'\n'
 }
 
 fn comment_end(src: &[u8], from: usize) -> usize
     requires { from ≤ length src.now }
     ensures { spec.IsSpan src.now spec.in_comment from result }
 {
-    let mut to = from;
-    while to < src.len() && src[to] != b'\n' {
-        to += 1;
-    }
-    to
+    span_end(src, from, is_comment_byte)
 }
 
-fn is_name_byte(b: u8) -> bool
-    ensures { result ≡ spec.is_name_byte b }
+fn goes_on_name_byte(b: u8) -> bool
+    ensures { result ≡ goes_on_name b }
 {
-    b.is_ascii_alphabetic() || b.is_ascii_digit() || b == b'_'
+    begins_name_byte(b) || b.is_ascii_digit()
 }
 
 fn name_end(src: &[u8], from: usize) -> usize
     requires { from ≤ length src.now }
-    ensures { spec.IsSpan src.now spec.is_name_byte from result }
+    ensures { spec.IsSpan src.now goes_on_name from result }
 {
-    let mut to = from;
-    while to < src.len() && is_name_byte(src[to]) {
-        to += 1;
-    }
-    to
+    span_end(src, from, goes_on_name_byte)
+}
+
+fn is_digit(b: u8) -> bool
+    ensures { result ≡ is_ascii_digit b }
+{
+    b.is_ascii_digit()
 }
 
 fn number_end(src: &[u8], from: usize) -> usize
     requires { from ≤ length src.now }
     ensures { spec.IsSpan src.now is_ascii_digit from result }
 {
-    let mut to = from;
-    while to < src.len() && src[to].is_ascii_digit() {
-        to += 1;
-    }
-    to
-}
-
-fn symbol_in_table(bytes: &[u8]) -> Option<Symbol>
-    ensures { result ≡ symbol_of bytes.now }
-{
-    match bytes {
-        [b';'] => Some(Symbol::Semi),
-        [b'='] => Some(Symbol::Assign),
-        [b'['] => Some(Symbol::LBracket),
-        [b']'] => Some(Symbol::RBracket),
-        [b'{'] => Some(Symbol::LBrace),
-        [b'}'] => Some(Symbol::RBrace),
-        [b'('] => Some(Symbol::LParen),
-        [b')'] => Some(Symbol::RParen),
-        [b'|'] => Some(Symbol::Or),
-        [b'^'] => Some(Symbol::Xor),
-        [b'&'] => Some(Symbol::And),
-        [b'<'] => Some(Symbol::Lt),
-        [b'>'] => Some(Symbol::Gt),
-        [b'+'] => Some(Symbol::Add),
-        [b'-'] => Some(Symbol::Sub),
-        [b'*'] => Some(Symbol::Mul),
-        [b'/'] => Some(Symbol::Div),
-        [b'%'] => Some(Symbol::Rem),
-        [b'~'] => Some(Symbol::Not),
-        [b'=', b'='] => Some(Symbol::Eq),
-        [b'!', b'='] => Some(Symbol::Ne),
-        [b'<', b'='] => Some(Symbol::Le),
-        [b'>', b'='] => Some(Symbol::Ge),
-        [b'<', b'<'] => Some(Symbol::Shl),
-        [b'>', b'>'] => Some(Symbol::Shr),
-        _ => None,
-    }
+    span_end(src, from, is_digit)
 }
 
 /// The symbol that is written so, if any.
 fn symbol_by_bytes(bytes: &[u8]) -> Option<Symbol>
     ensures { MatchOption result ((k : Symbol) → bytes.now ≡ spelling k → ⊥) (λ k. bytes.now ≡ spelling k) }
 {
-    symbol_in_table(bytes)
+    for symbol in &SYMBOLS {
+        if bytes == symbol.text() {
+            return Some(*symbol);
+        }
+    }
+    None
 }
 
 fn word_or_name(bytes: &[u8]) -> TokenKind
@@ -161,23 +123,22 @@ fn word_or_name(bytes: &[u8]) -> TokenKind
 
 /// The value of digits, if it fits.
 fn value_of(digits: &[u8]) -> Option<i64>
-    requires { (i : ℕ) → i < length digits.now → is_ascii_digit (slice_index digits.now i) ≡ true }
-    ensures { MatchOption result (2 ^ 63 ≤ spec.value_of digits.now) (λ v. (v ≡ pos (spec.value_of digits.now)) × (spec.value_of digits.now < 2 ^ 63)) }
+    requires some { 0 < length digits.now }
+    requires each { (i : ℕ) → i < length digits.now → is_ascii_digit (slice_index digits.now i) ≡ true }
+    ensures { MatchOption result (2 ^ 63 ≤ spec.value_of digits.now) (λ v. (v ≡ pos (spec.value_of digits.now))
+        × (spec.value_of digits.now < 2 ^ 63)) }
 {
-    let mut value: u64 = 0;
-    for b in digits {
-        if value > 922337203685477580 {
-            return None;
-        }
-        value = 10 * value + u64::from(*b - b'0');
+    match count(digits) {
+        Ok(value) => i64::try_from(value).ok(),
+        Err(_) => None,
     }
-    i64::try_from(value).ok()
 }
 
 /// The symbol of two bytes from here, if any.
 fn pair_at(src: &[u8], from: usize) -> Option<Symbol>
     requires { from < length src.now }
-    ensures { MatchOption result (NoPair src.now from) (λ k. (from + 2 ≤ length src.now) × (slice_range src.now from (from + 2) ≡ spelling k)) }
+    ensures { MatchOption result (NoPair src.now from) (λ k. (from + 2 ≤ length src.now)
+        × (slice_range src.now from (from + 2) ≡ spelling k)) }
 {
     if src.len() - from < 2 {
         return None;
@@ -200,15 +161,14 @@ fn symbol_at(src: &[u8], from: usize) -> Option<(Symbol, usize)>
 }
 
 fn word(src: &[u8], from: usize) -> Result<Piece, LexFault>
-    requires here { from < length src.now }
     requires short { length src.now < 2 ^ 32 - 1 }
-    requires letter { spec.start (slice_index src.now from) ≡ Start.Letter }
+    requires begins { spec.Begins src.now begins_name from }
     ensures { MatchResult result (λ r. spec.IsAllowedPiece src.now from r.0 r.1) (λ e. spec.IsFaultAt src.now from e) }
 {
     let to = name_end(src, from);
     match word_or_name(&src[from..to]) {
         TokenKind::Name => {
-            if to - from > 64 {
+            if to - from > MOST_NAME_BYTES {
                 return Err(LexFault::LongName {
                     at: from as u32,
                     len: (to - from) as u32,
@@ -221,9 +181,8 @@ fn word(src: &[u8], from: usize) -> Result<Piece, LexFault>
 }
 
 fn number(src: &[u8], from: usize) -> Result<Piece, LexFault>
-    requires here { from < length src.now }
     requires short { length src.now < 2 ^ 32 - 1 }
-    requires digit { spec.start (slice_index src.now from) ≡ Start.Digit }
+    requires begins { spec.Begins src.now is_ascii_digit from }
     ensures { MatchResult result (λ r. spec.IsAllowedPiece src.now from r.0 r.1) (λ e. spec.IsFaultAt src.now from e) }
 {
     let to = number_end(src, from);
@@ -233,21 +192,34 @@ fn number(src: &[u8], from: usize) -> Result<Piece, LexFault>
     }
 }
 
+fn symbol(src: &[u8], from: usize) -> Result<Piece, LexFault>
+    requires here { from < length src.now }
+    requires short { length src.now < 2 ^ 32 - 1 }
+    requires only { OnlySymbol (slice_index src.now from) }
+    ensures { MatchResult result (λ r. spec.IsAllowedPiece src.now from r.0 r.1) (λ e. spec.IsFaultAt src.now from e) }
+{
+    match symbol_at(src, from) {
+        Some((symbol, to)) => Ok((to, Some(TokenKind::Sym(symbol)))),
+        None => Err(LexFault::BadByte { at: from as u32 }),
+    }
+}
+
 /// The piece that begins here, or the fault that stands here.
 pub fn piece(src: &[u8], from: usize) -> Result<Piece, LexFault>
     requires here { from < length src.now }
     requires short { length src.now < 2 ^ 32 - 1 }
     ensures { MatchResult result (λ r. spec.IsAllowedPiece src.now from r.0 r.1) (λ e. spec.IsFaultAt src.now from e) }
 {
-    match start(src[from]) {
-        Start::White => Ok((from + 1, None)),
-        Start::Comment => Ok((comment_end(src, from), None)),
-        Start::Letter => word(src, from),
-        Start::Digit => number(src, from),
-        Start::Mark => match symbol_at(src, from) {
-            Some((symbol, to)) => Ok((to, Some(TokenKind::Sym(symbol)))),
-            None => Err(LexFault::BadByte { at: from as u32 }),
-        },
-        Start::Other => Err(LexFault::BadByte { at: from as u32 }),
+    let first = src[from];
+    if is_white(first) {
+        Ok((from + 1, None))
+    } else if begins_comment(first) {
+        Ok((comment_end(src, from), None))
+    } else if begins_name_byte(first) {
+        word(src, from)
+    } else if is_digit(first) {
+        number(src, from)
+    } else {
+        symbol(src, from)
     }
 }

@@ -16,13 +16,10 @@ fn add(tokens: &mut Vec<Token>, kind: Option<TokenKind>, at: u32, end: u32) -> R
     ensures ok { OnOk result (tokens.new.items ≡ tokens.old.items ++ spec.tokens kind at end) }
     ensures err { IfErr result (λ e. e ≡ LexFault.Memory) }
 {
-    match kind {
-        None => Ok(()),
-        Some(kind) => match tokens.push(Token { kind, at, end }) {
-            Ok(()) => Ok(()),
-            Err(_) => Err(LexFault::Memory),
-        },
+    if let Some(kind) = kind {
+        tokens.push(Token { kind, at, end })?;
     }
+    Ok(())
 }
 
 /// The tokens of a text, in order. There are no more of them than bytes, and each is the slice of
@@ -38,7 +35,8 @@ pub fn lex(alloc: Global, src: &[u8]) -> Result<Vec<Token>, LexFault>
     ensures found { IfOk result (λ v. spec.Spells src.now 0 v.items × spec.AreAllowed src.now v.items) }
     ensures ordered { IfOk result (λ v. Ordered src.now v.items) }
     // What the text spells within the limits is read, unless memory runs out.
-    ensures only { (ts : List Token) → spec.Spells src.now 0 ts → spec.AreAllowed src.now ts → MatchResult result (λ v. v.items ≡ ts) (λ e. e ≡ LexFault.Memory) }
+    ensures only { (ts : List Token) → spec.Spells src.now 0 ts → spec.AreAllowed src.now ts
+        → MatchResult result (λ v. v.items ≡ ts) (λ e. e ≡ LexFault.Memory) }
     // A fault is the first, and where there is one, it is told.
     ensures fault { IfErr result (λ e. (e ≢ LexFault.Memory) → spec.Faults src.now 0 e) }
     ensures only_fault { (e : LexFault) → spec.Faults src.now 0 e → MatchResult result (λ _. ⊥) (λ x. (x ≡ e) ⊎ (x ≡ LexFault.Memory)) }
@@ -46,13 +44,9 @@ pub fn lex(alloc: Global, src: &[u8]) -> Result<Vec<Token>, LexFault>
     let mut tokens = Vec::new(alloc);
     let mut at = 0;
     while at < src.len() {
-        match piece(src, at) {
-            Ok((to, kind)) => {
-                add(&mut tokens, kind, at as u32, to as u32)?;
-                at = to;
-            }
-            Err(fault) => return Err(fault),
-        }
+        let (to, kind) = piece(src, at)?;
+        add(&mut tokens, kind, at as u32, to as u32)?;
+        at = to;
     }
     Ok(tokens)
 }

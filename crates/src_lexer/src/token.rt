@@ -1,5 +1,8 @@
 //! Tokens.
 
+ghost use Rattle.std.specs.Prelude.{◌≡◌};
+ghost use Rattle.src_lexer.specs.Symbols.{spelling};
+
 /// A reserved word.
 #[derive(Clone, Copy, Debug, PartialEq, Eq)]
 pub enum Keyword {
@@ -72,6 +75,70 @@ pub enum Symbol {
     Not,
 }
 
+/// All symbols.
+pub const SYMBOLS: [Symbol; 25] = [
+    Symbol::Semi,
+    Symbol::Assign,
+    Symbol::LBracket,
+    Symbol::RBracket,
+    Symbol::LBrace,
+    Symbol::RBrace,
+    Symbol::LParen,
+    Symbol::RParen,
+    Symbol::Or,
+    Symbol::Xor,
+    Symbol::And,
+    Symbol::Eq,
+    Symbol::Ne,
+    Symbol::Lt,
+    Symbol::Le,
+    Symbol::Gt,
+    Symbol::Ge,
+    Symbol::Shl,
+    Symbol::Shr,
+    Symbol::Add,
+    Symbol::Sub,
+    Symbol::Mul,
+    Symbol::Div,
+    Symbol::Rem,
+    Symbol::Not,
+];
+
+impl Symbol {
+    /// How it is written.
+    pub fn text(self) -> &'static [u8]
+        ensures { result.now ≡ spelling self }
+    {
+        match self {
+            Symbol::Semi => b";",
+            Symbol::Assign => b"=",
+            Symbol::LBracket => b"[",
+            Symbol::RBracket => b"]",
+            Symbol::LBrace => b"{",
+            Symbol::RBrace => b"}",
+            Symbol::LParen => b"(",
+            Symbol::RParen => b")",
+            Symbol::Or => b"|",
+            Symbol::Xor => b"^",
+            Symbol::And => b"&",
+            Symbol::Eq => b"==",
+            Symbol::Ne => b"!=",
+            Symbol::Lt => b"<",
+            Symbol::Le => b"<=",
+            Symbol::Gt => b">",
+            Symbol::Ge => b">=",
+            Symbol::Shl => b"<<",
+            Symbol::Shr => b">>",
+            Symbol::Add => b"+",
+            Symbol::Sub => b"-",
+            Symbol::Mul => b"*",
+            Symbol::Div => b"/",
+            Symbol::Rem => b"%",
+            Symbol::Not => b"~",
+        }
+    }
+}
+
 /// What a token is.
 #[derive(Clone, Copy, Debug, PartialEq, Eq)]
 pub enum TokenKind {
@@ -97,21 +164,4 @@ pub struct Token {
     pub at: u32,
     /// The place behind its last byte.
     pub end: u32,
-}
-
-/// What a first byte begins.
-#[derive(Clone, Copy, Debug, PartialEq, Eq)]
-pub enum Start {
-    /// One byte of white space.
-    White,
-    /// A comment.
-    Comment,
-    /// A name or a reserved word.
-    Letter,
-    /// A number.
-    Digit,
-    /// A symbol, or nothing: `!` stands in `!=` alone.
-    Mark,
-    /// Nothing.
-    Other,
 }

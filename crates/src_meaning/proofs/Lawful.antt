@@ -8,7 +8,7 @@ use Rattle.src_meaning.specs.declared.evaluate.End.TheVariants.{Done}
 use Rattle.src_meaning.specs.Meaning.{Outcome, Action, done, is_zero, value_of, in_order, statement, statement_step, statements, meaning}
 use Rattle.src_meaning.specs.Laws.{Prints, IsDoneAs}
 use Rattle.src_meaning.proofs.Equations.{statement-assign, statement-set, statement-print, statement-if, statement-while}
-use Rattle.src_meaning.proofs.Induct.{Each, Cases, induct_all, none as each_none, more as each_more}
+use Rattle.src_names.proofs.Induct.{Each, Cases, induct_all, none as each_none, more as each_more}
 use Rattle.src_meaning.proofs.Turns.{Spends, AllSpend, spends_in_order, spends_if, spends_loop, none as spend_none, more as spend_more}
 use Rattle.src_meaning.proofs.Growing.{GrowsTo, AllGrow, grows-done, grows-behind, grows-if, grows_in_order, grows_while, none as grow_none, more as grow_more}
 

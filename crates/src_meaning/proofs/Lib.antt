@@ -1,10 +1,9 @@
 pub mod Algebra
 pub mod Equations
 pub mod Growing
-pub mod Induct
-pub mod Kept
 pub mod Lawful
 pub mod Loops
+pub mod Named
 pub mod Runs
 pub mod Suits
 pub mod Taking

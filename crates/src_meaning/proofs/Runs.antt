@@ -1,25 +1,25 @@
 -- Statements that were run.
-use Rattle.std.proofs.Common.{◌≡◌, ℕ, zero, suc, ◌<◌, ◌≤◌, ◌+◌, ℤ, pos, List, [], ◌∷◌, Bool, true, false, drop, length, get_or, Result, Ok, Err, refl, ap, sym, ◌∙◌, subst, arith, w64, of_z, to_z, FitsSigned}
+use Rattle.std.proofs.Common.{◌≡◌, ℕ, suc, ◌<◌, ◌+◌, ℤ, pos, List, [], ◌∷◌, Bool, true, false, drop, length, get_or, Result, Ok, Err, refl, ap, sym, ◌∙◌, subst, arith, w64, of_z, to_z, FitsSigned}
 use Rattle.std.proofs.lemmas.Int.{to_z-of_z}
 use Rattle.std.specs.Prelude.{IsOk, IsTrue}
 use Rattle.std.specs.Bool.{Decides}
 use Rattle.std.proofs.lemmas.Bool.Decides.{Decides-int_eq}
-use Rattle.std.proofs.lemmas.List.{drop_more}
 use Rattle.bm_base.specs.Entry.{Entry}
 use Rattle.bm_base.specs.Memory.{Content, set_variable, set_element}
 use Rattle.bm_io.specs.declared.sinks.SinkFault.{SinkFault}
 use Rattle.bm_io.specs.declared.sinks.SinkFault.TheVariants.{Failed}
 use Rattle.bm_io.specs.Causes.{HasCause}
-use Rattle.tuple_ir.specs.Memories.{IsMemoryOf}
+use Rattle.bm_base.specs.Memories.{IsMemoryOf}
 use Rattle.src_names.specs.declared.resolved.RExpr.{RExpr}
 use Rattle.src_names.specs.declared.resolved.RStmt.{RStmt}
 use Rattle.src_names.specs.declared.resolved.RStmt.TheVariants as s
+use Rattle.src_names.proofs.Induct.{drop_first}
 use Rattle.src_meaning.specs.declared.evaluate.End.{End}
 use Rattle.src_meaning.specs.declared.evaluate.End.TheVariants.{Done, More}
 use Rattle.src_meaning.specs.Meaning.{Outcome, done, stopped, behind, and_then, is_zero, value_of, statement, statements, while_loop}
 use Rattle.src_meaning.specs.Evaluates.{View, seen, Evaluates}
 use Rattle.src_meaning.proofs.Equations.{statement-assign, statement-set, statement-print, statement-if, statement-while}
-use Rattle.src_meaning.proofs.Kept.{IsMemoryOf-set_variable, IsMemoryOf-set_element}
+use Rattle.bm_base.proofs.Kept.{IsMemoryOf-set_variable, IsMemoryOf-set_element}
 use Rattle.src_meaning.proofs.Taking.{HasCause-nothing, Took-nothing}
 use Rattle.src_meaning.proofs.Turns.{while-turn, while-done, while-stopped}
 use Rattle.src_meaning.proofs.Lawful.{lawful}
@@ -41,16 +41,6 @@ decided_no false P d n = refl
 
 not_zero_is : (k : ℤ) → (k ≡ pos 0 → ⊥) → is_zero k ≡ false
 not_zero_is k n = decided_no (is_zero k) (k ≡ pos 0) (Decides-int_eq k (pos 0)) n
-
--- what is left of statements from number i on
-pub drop_first : (zs : List RStmt) (i : ℕ) (z : RStmt) → i < length zs → z ≡ get_or zs i z → drop i zs ≡ z ∷ drop (i + 1) zs
-drop_first zs i z within is = drop_more zs i z within ∙ ap (λ y. y ∷ drop (i + 1) zs) (sym is)
-
-pub drop_past : (zs : List RStmt) (i : ℕ) → length zs ≤ i → drop i zs ≡ []
-drop_past [] zero h = refl
-drop_past [] (suc i) h = refl
-drop_past (z ∷ zs) zero h = absurd (omega arith)
-drop_past (z ∷ zs) (suc i) h = drop_past zs i (omega arith)
 
 module _ {Held : Type 0} (next : Held → ℤ → Held) (leaves : SinkFault → Held → ℤ → Held → Type 0) (is_sure : Bool) where
   -- the memory was written, and nothing else happened

@@ -2,8 +2,9 @@
 use Rattle.std.proofs.Common.{◌≡◌, ℕ, List, [], ◌∷◌, refl, ap, sym, ◌∙◌, subst}
 use Rattle.bm_base.specs.Entry.{Entry}
 use Rattle.bm_base.specs.Memory.{Content, IsVariable, IsArray}
-use Rattle.tuple_ir.specs.Memories.{IsMemoryOf}
-use Rattle.src_names.specs.Right.{RightExpr, RightStmt, RightBody, IsVariableOf, IsArrayOf}
+use Rattle.bm_base.specs.Memories.{IsMemoryOf}
+use Rattle.src_names.specs.Right.{RightExpr, RightStmt, RightBody}
+use Rattle.bm_base.specs.Names.{IsVariableOf, IsArrayOf}
 use Rattle.src_names.specs.Right as r
 use Rattle.src_names.specs.declared.resolved.RExpr.{RExpr, RExpr-F}
 use Rattle.src_names.specs.declared.resolved.RExpr.TheViews.{out-RExpr}
@@ -12,7 +13,7 @@ use Rattle.src_names.specs.declared.resolved.RStmt.{RStmt, RStmt-F}
 use Rattle.src_names.specs.declared.resolved.RStmt.TheViews.{out-RStmt}
 use Rattle.src_names.specs.declared.resolved.RStmt.TheVariants as s
 use Rattle.src_meaning.specs.Evaluates.{SuitsExpr, SuitsStmt, SuitsBody}
-use Rattle.src_meaning.proofs.Kept.{IsVariable-named, IsArray-named}
+use Rattle.src_meaning.proofs.Named.{IsVariable-named, IsArray-named}
 
 module _ (names : List Entry) where
   -- what is right of the layer of an expression

@@ -6,7 +6,7 @@ use Rattle.bm_io.specs.declared.sinks.SinkFault.{SinkFault}
 use Rattle.bm_io.specs.declared.sinks.SinkFault.TheVariants.{Failed}
 use Rattle.bm_io.specs.Causes.{HasCause}
 use Rattle.bm_io.specs.Values.{Took}
-use Rattle.tuple_ir.specs.Memories.{IsMemoryOf}
+use Rattle.bm_base.specs.Memories.{IsMemoryOf}
 use Rattle.src_names.specs.Right.{RightExpr, RightStmt, RightBody}
 use Rattle.src_names.specs.declared.resolved.RExpr.{RExpr}
 use Rattle.src_names.specs.declared.resolved.RStmt.{RStmt}
@@ -25,7 +25,8 @@ seen held faults turns memory = record { held = held; faults = faults; turns = t
 
 -- The words of the outcome were taken, up to the first that was refused. Where none was, the answer is how the outcome ends, with its
 -- turns and its memory. A memory of some names stays one in every case.
-pub record Evaluates {Held : Type 0} (next : Held → ℤ → Held) (leaves : SinkFault → Held → ℤ → Held → Type 0) (is_sure : Bool) (before now : View Held) (outcome : Outcome) (result : Result End SinkFault) : Type 0 where
+pub record Evaluates {Held : Type 0} (next : Held → ℤ → Held) (leaves : SinkFault → Held → ℤ → Held
+    → Type 0) (is_sure : Bool) (before now : View Held) (outcome : Outcome) (result : Result End SinkFault) : Type 0 where
   pub took : Took next leaves before.held now.held outcome.output result
   pub end : IfOk result (λ end. end ≡ outcome.end)
   pub turns : OnOk result (now.turns ≡ outcome.turns)

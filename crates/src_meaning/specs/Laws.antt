@@ -21,16 +21,20 @@ pub record IsDoneAs (o done : Outcome) : Type 0 where
 
 -- with one turn more the output goes on
 abbrev pub TurnsAddOutput : Type 0
-TurnsAddOutput = (p : RProgram) (memory : List Content) (turns : ℕ) → Prints (meaning p memory turns).output (meaning p memory (turns + 1)).output
+TurnsAddOutput = (p : RProgram) (memory : List Content) (turns : ℕ)
+    → Prints (meaning p memory turns).output (meaning p memory (turns + 1)).output
 
 -- what is done stays so with more turns
 abbrev pub DoneStays : Type 0
-DoneStays = (p : RProgram) (memory : List Content) (turns more : ℕ) → (meaning p memory turns).end ≡ Done → turns ≤ more → IsDoneAs (meaning p memory more) (meaning p memory turns)
+DoneStays = (p : RProgram) (memory : List Content) (turns more : ℕ) → (meaning p memory turns).end ≡ Done → turns ≤ more
+    → IsDoneAs (meaning p memory more) (meaning p memory turns)
 
 -- What a loop means. Where its test is 0 it is done. Where the test is not 0 and no turn is left, more is to come; otherwise one turn is
 -- spent, the body runs, and then the same loop with the turns that are left.
 pub record LoopsGoRound : Type 0 where
-  pub ends : (c : RExpr) (body : List RStmt) (turns : ℕ) (memory : List Content) → is_zero (value_of c memory) ≡ true → statement (While c body) turns memory ≡ done turns memory
-  pub stops : (c : RExpr) (body : List RStmt) (memory : List Content) → is_zero (value_of c memory) ≡ false → statement (While c body) 0 memory ≡ stopped 0 memory
+  pub ends : (c : RExpr) (body : List RStmt) (turns : ℕ) (memory : List Content) → is_zero (value_of c memory) ≡ true
+      → statement (While c body) turns memory ≡ done turns memory
+  pub stops : (c : RExpr) (body : List RStmt) (memory : List Content) → is_zero (value_of c memory) ≡ false
+      → statement (While c body) 0 memory ≡ stopped 0 memory
   pub goes_on : (c : RExpr) (body : List RStmt) (turns : ℕ) (memory : List Content) → is_zero (value_of c memory) ≡ false
       → statement (While c body) (turns + 1) memory ≡ and_then (statements body turns memory) (statement (While c body))

@@ -65,7 +65,8 @@ is_zero v = int_eq v (pos 0)
 abbrev pub loop : ℕ → (List Content → ℤ) → Action → Action
 loop zero test body turns memory = if is_zero (test memory) then done turns memory else stopped turns memory
 loop (suc often) test body zero memory = if is_zero (test memory) then done zero memory else stopped zero memory
-loop (suc often) test body (suc turns) memory = if is_zero (test memory) then done (suc turns) memory else and_then (body turns memory) (loop often test body)
+loop (suc often) test body (suc turns) memory = if is_zero (test memory)
+    then done (suc turns) memory else and_then (body turns memory) (loop often test body)
 
 -- It never goes round more often than there are turns.
 abbrev pub while_loop : (List Content → ℤ) → Action → Action
@@ -76,7 +77,8 @@ abbrev pub statement_step : RStmt-F Action → Action
 statement_step (RStmt-F.Assign x e) turns memory = done turns (set_variable memory x (value_of e memory))
 statement_step (RStmt-F.SetElement x i e) turns memory = done turns (set_element memory x (value_of i memory) (value_of e memory))
 statement_step (RStmt-F.Print e) turns memory = behind (value_of e memory ∷ []) (done turns memory)
-statement_step (RStmt-F.If c ones others) turns memory = if is_zero (value_of c memory) then in_order others turns memory else in_order ones turns memory
+statement_step (RStmt-F.If c ones others) turns memory = if is_zero (value_of c memory)
+    then in_order others turns memory else in_order ones turns memory
 statement_step (RStmt-F.While c body) turns memory = while_loop (value_of c) (in_order body) turns memory
 
 -- what a statement does

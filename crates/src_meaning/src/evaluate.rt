@@ -5,7 +5,7 @@ ghost use Rattle.bm_io.specs.Causes.{HasCause};
 ghost use Rattle.bm_io.specs.Values.{Took};
 ghost use Rattle.bm_base.specs.Memory.{set_variable, set_element};
 ghost use Rattle.src_names.specs.declared.resolved.RStmt.TheVariants.{Assign, SetElement};
-ghost use Rattle.tuple_ir.specs.Memories.{IsMemoryOf};
+ghost use Rattle.bm_base.specs.Memories.{IsMemoryOf};
 ghost use Rattle.src_meaning.specs.Meaning.{value_of, statement, statements, meaning};
 ghost use Rattle.src_meaning.specs.Evaluates.{seen, Evaluates, SuitsExpr, SuitsStmt, SuitsBody};
 
@@ -65,7 +65,9 @@ fn run<V: Values>(
     out: &mut V,
 ) -> Result<End, SinkFault>
     requires { SuitsStmt stmt.now store.old }
-    ensures evaluates { Evaluates V.with_value V.leaves V.is_sure (seen (V.held out.old) (V.faults out.old) turns.old store.old) (seen (V.held out.new) (V.faults out.new) turns.new store.new) (statement stmt.now turns.old store.old) result }
+    ensures evaluates { Evaluates V.with_value V.leaves V.is_sure (seen (V.held out.old) (V.faults out.old) turns.old store.old)
+        (seen (V.held out.new) (V.faults out.new) turns.new store.new)
+        (statement stmt.now turns.old store.old) result }
     ensures lender { V.lender out.new ≡ V.lender out.old }
 {
     match stmt {
@@ -114,7 +116,9 @@ fn run_all<V: Values>(
     out: &mut V,
 ) -> Result<End, SinkFault>
     requires { SuitsBody body.now store.old }
-    ensures evaluates { Evaluates V.with_value V.leaves V.is_sure (seen (V.held out.old) (V.faults out.old) turns.old store.old) (seen (V.held out.new) (V.faults out.new) turns.new store.new) (statements body.now turns.old store.old) result }
+    ensures evaluates { Evaluates V.with_value V.leaves V.is_sure (seen (V.held out.old) (V.faults out.old) turns.old store.old)
+        (seen (V.held out.new) (V.faults out.new) turns.new store.new)
+        (statements body.now turns.old store.old) result }
     ensures lender { V.lender out.new ≡ V.lender out.old }
 {
     for stmt in body {

@@ -1,8 +1,4 @@
 // Laws of the meaning.
-ghost use Rattle.std.specs.Prelude.{List};
-ghost use Rattle.bm_base.specs.Entry.{Entry};
-ghost use Rattle.bm_base.specs.Memory.{initial};
-ghost use Rattle.tuple_ir.specs.Memories.{IsMemoryOf};
 ghost use Rattle.src_meaning.specs.Laws.{TurnsAddOutput, DoneStays, LoopsGoRound};
 
 /// With one turn more the output of a program goes on where it ended; an outcome that is done stays
@@ -10,11 +6,6 @@ ghost use Rattle.src_meaning.specs.Laws.{TurnsAddOutput, DoneStays, LoopsGoRound
 pub fn turns_only_add()
     ensures output { TurnsAddOutput }
     ensures done { DoneStays }
-{}
-
-/// The declared values are a memory of the names: what `Store::new` gives may be evaluated on.
-pub fn declared_values_are_a_memory()
-    ensures { (names : List Entry) → IsMemoryOf names (initial names) }
 {}
 
 /// A loop is done where its test is 0. Where the test is not 0, more is to come if no turn is left;

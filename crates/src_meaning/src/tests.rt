@@ -1,5 +1,5 @@
 // Worked programs without names, up to their turns and up to a refusal.
-use crate::{End, declared_values_are_a_memory, eval};
+use crate::{End, eval};
 use bm_base::Store;
 use bm_io::{FoldValues, LineValues, MemSink, SinkFault, Values};
 use sqlite_items::Items;
@@ -46,7 +46,6 @@ fn run<V: Values>(
     turns: u64,
     out: &mut V,
 ) -> Result<Result<End, SinkFault>, AllocError> {
-    declared_values_are_a_memory();
     let mut store = Store::new(alloc, program.names())?;
     Ok(eval(program, &mut store, turns, out))
 }

@@ -3,34 +3,42 @@ use Rattle.std.proofs.Common.{◌≡◌, ◌⊎◌, ℕ, zero, suc, ◌+◌, ◌
 use Rattle.std.specs.Prelude.{slice_get, get_or, nat_le, ◌&&◌, if◌then◌else◌}
 use Rattle.std.specs.List.{list_all}
 use Rattle.std.proofs.lemmas.Option.{slice_get_within}
-use Rattle.std.proofs.lemmas.List.Sums.{sum_by_push}
+use Rattle.std.proofs.lemmas.List.Sums.{sum_by_push, list_all-from_AllPass}
 use Rattle.std.proofs.lemmas.List.{take_more, take-append-drop}
 use Rattle.std.proofs.Math.Seq.{drop-cons}
 use Rattle.std.proofs.Math.Dec.{leb}
-use Rattle.std.proofs.lemmas.Bool.{leb-true, leb-false}
-use Rattle.std.proofs.lemmas.Bool.Decides.{leb_tells}
+use Rattle.std.proofs.lemmas.Bool.{leb-true, leb-false, le-leb}
+use Rattle.std.proofs.lemmas.Bool.Decides.{leb_tells, nat_tests}
 use Rattle.bm_base.specs.declared.names.Kind.{Kind}
 use Rattle.bm_base.specs.declared.names.Kind.TheVariants as k
 use Rattle.bm_base.specs.declared.names.NamesFault.{NamesFault}
 use Rattle.bm_base.specs.declared.names.NamesFault.TheVariants as b
 use Rattle.bm_base.specs.Entry.{Entry}
-use Rattle.bm_base.specs.Names.{place_of, is_name, has_room, adding, adding_at, element_total, elements_of, AreNames}
+use Rattle.bm_base.specs.declared.limits.TheConstants.{MOST_NAME_BYTES}
+use Rattle.bm_base.specs.Names.{place_of, is_name, goes_on_name, has_element, has_room, adding, adding_at, element_total, elements_of, AreNames, AreInRange}
+use Rattle.src_lexer.specs.Laws.{IsNameText}
 use Rattle.src_tree.specs.declared.tree.Ident.{Ident}
 use Rattle.src_tree.specs.declared.tree.Decl.{Decl}
 use Rattle.src_tree.specs.declared.tree.Decl.TheVariants as d
 use Rattle.src_names.specs.declared.fault.NameFault.{NameFault}
 use Rattle.src_names.specs.declared.fault.NameFault.TheVariants as f
-use Rattle.src_names.specs.Declarations.{AreDeclared, AreInRange, IsNamedWell, AreNamedWell, name_of}
+use Rattle.src_names.specs.Declarations.{AreDeclared, IsNamedWell, AreNamedWell, name_of}
 use Rattle.src_names.specs.Declarations as n
 use Rattle.src_names.specs.Fault as t
 use Rattle.src_names.specs.Fault.{DeclaredAt, DeclFault, DeclsFault}
 use Rattle.src_names.specs.Adding.{kind_of, size_of}
-use Rattle.src_names.proofs.Bridge.{is_name_of}
 use Rattle.src_names.proofs.Find.{placed, absent}
 
+-- a name of the text is a name that can be declared
+named_at : (bs : List ℕ) → IsNameText bs → length bs ≤ MOST_NAME_BYTES → is_name bs ≡ true
+named_at [] h s = absurd h.begins
+named_at (b ∷ bs) h s =
+    let short : nat_le (length (b ∷ bs)) MOST_NAME_BYTES ≡ true = le-leb (length (b ∷ bs)) MOST_NAME_BYTES s in
+    rw (h.begins, h.free, short) (list_all-from_AllPass goes_on_name bs (λ i d lt. h.goes_on (suc i) d (omega arith)))
+
 named_of : (x : Decl) → IsNamedWell x → is_name (name_of x).text ≡ true
-named_of (d.Var m v) w = is_name_of m w
-named_of (d.Array m v) w = is_name_of m w.0
+named_of (d.Var m v) w = named_at m.text w.text w.short
+named_of (d.Array m v) w = named_at m.text (w.0).text (w.0).short
 
 -- what an answer of `add` says of the name
 abbrev pub Means : List ℕ → Kind → List Entry → Result ℕ NamesFault → Type 0
@@ -206,8 +214,16 @@ each_named (n.array {n = m} {len = len} {ds = ds} p a) w =
     let rest : AreNamedWell ds = λ i x lt. w (suc i) x (omega arith) in
     rw (named_of (d.Array m (pos len)) first, each_named a rest) refl
 
+-- a declared array has an element
+each_filled : {ds : List Decl} {es : List Entry} → AreDeclared ds es → list_all (λ (e : Entry). has_element e.kind) es ≡ true
+each_filled n.none = refl
+each_filled (n.var a) = each_filled a
+each_filled (n.array {len = len} p a) =
+    let first : nat_le 1 len ≡ true = grind (arith, nat_tests) in
+    rw (first, each_filled a) refl
+
 pub are_names : {ds : List Decl} {es : List Entry} → AreDeclared ds es → AreNamedWell ds → AreInRange es → length ds ≤ 1024 → AreNames es
-are_names a w range few = record { few = (let long = length_declared a in omega arith); room = range.room; each = each_named a w; once = range.once }
+are_names a w range few = record { few = (let long = length_declared a in omega arith); range = range; each = each_named a w; filled = each_filled a }
 
 -- no names
 pub nothing : AreInRange []

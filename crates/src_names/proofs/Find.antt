@@ -1,16 +1,16 @@
 -- The number of a name in a list of declared names.
-use Rattle.std.proofs.Common.{◌≡◌, ℕ, zero, suc, ◌+◌, ◌<◌, pos, Bool, true, false, cond, List, [], ◌∷◌, length, Option, Some, None, refl, sym, ◌∙◌, subst, arith, true≢false}
+use Rattle.std.proofs.Common.{◌≡◌, ℕ, ◌<◌, pos, true, false, List, [], length, Option, Some, None, sym, ◌∙◌, subst, true≢false}
 use Rattle.std.specs.Prelude.{slice_get, get_or, IfSome}
-use Rattle.std.specs.List.{position_from}
 use Rattle.std.specs.Str.{bytes_eq}
 use Rattle.std.proofs.lemmas.Slice.Eq.{bytes_eq-Decides}
-use Rattle.std.proofs.lemmas.Option.{slice_get_within, slice_get-get_or}
+use Rattle.std.proofs.lemmas.Option.{slice_get-get_or}
 use Rattle.std.proofs.lemmas.List.Quantifiers.{position-Some}
 use Rattle.std.proofs.lemmas.Iterator.Adapters.{position_from-zero}
 use Rattle.bm_base.specs.declared.names.Kind.{Kind}
 use Rattle.bm_base.specs.declared.names.Kind.TheVariants as k
 use Rattle.bm_base.specs.Entry.{Entry}
 use Rattle.bm_base.specs.Names.{place_of}
+use Rattle.bm_base.proofs.Naming.{none_at}
 use Rattle.src_tree.specs.declared.tree.Ident.{Ident}
 use Rattle.src_names.specs.Fault.{IsFree}
 
@@ -42,20 +42,6 @@ pub within : (name : List ℕ) (es : List Entry) (id : ℕ) → place_of name es
 within name es id h =
     let d : Entry = record { name = []; kind = k.Var (pos 0) } in
     (position-Some (λ (e : Entry). bytes_eq name e.name) es id d h).0
-
-none_first : {X : Type 0} (p : X → Bool) (i : ℕ) (x : X) (xs : List X) → position_from p i (x ∷ xs) ≡ None → (p x ≡ false) × (position_from p (i + 1) xs ≡ None)
-none_first p i x xs h = by (p x) refl h
-  where
-    by : (b : Bool) → p x ≡ b → cond b (Some i) (position_from p (i + 1) xs) ≡ None → (p x ≡ false) × (position_from p (i + 1) xs ≡ None)
-    by true e n = absurd (cc)
-    by false e n = (e, n)
-
-none_at : {X : Type 0} (p : X → Bool) (i : ℕ) (xs : List X) → position_from p i xs ≡ None → (k : ℕ) (x : X) → slice_get xs k ≡ Some x → p x ≡ false
-none_at p i [] h k x e = absurd (omega (arith, slice_get_within [] k x e))
-none_at p i (y ∷ ys) h zero x e =
-    let same : y ≡ x = cc in
-    rw (← same) (none_first p i y ys h).0
-none_at p i (y ∷ ys) h (suc k) x e = none_at p (i + 1) ys (none_first p i y ys h).1 k x e
 
 -- a name without a number is not declared
 pub absent : (n : Ident) (es : List Entry) → place_of n.text es ≡ None → IsFree es n

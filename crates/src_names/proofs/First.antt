@@ -5,7 +5,7 @@ use Rattle.std.proofs.lemmas.Option.{slice_get_within}
 use Rattle.std.proofs.lemmas.List.Sums.{sum_by-append, sum_by-cons}
 use Rattle.bm_base.specs.declared.names.Kind.TheVariants as k
 use Rattle.bm_base.specs.Entry.{Entry}
-use Rattle.bm_base.specs.Names.{element_total, elements_of}
+use Rattle.bm_base.specs.Names.{element_total, elements_of, AreInRange}
 use Rattle.src_tree.specs.declared.tree.Ident.{Ident}
 use Rattle.src_tree.specs.declared.tree.Decl.{Decl}
 use Rattle.src_tree.specs.declared.tree.Decl.TheVariants as d
@@ -13,7 +13,7 @@ use Rattle.src_tree.specs.declared.tree.Program.{Program}
 use Rattle.src_names.specs.declared.fault.NameFault.{NameFault}
 use Rattle.src_names.specs.declared.fault.NameFault.TheVariants as f
 use Rattle.src_names.specs.RProgram.{RProgram}
-use Rattle.src_names.specs.Declarations.{AreDeclared, AreInRange, name_of}
+use Rattle.src_names.specs.Declarations.{AreDeclared, name_of}
 use Rattle.src_names.specs.Declarations as a
 use Rattle.src_names.specs.Named.{IsNamed}
 use Rattle.src_names.specs.Fault.{Use, Plain, Indexed, body_uses, AsVar, AsArray, IsFree, IsRightUse, AreRightUses, UseFault, UsesFault, DeclaredAt, DeclFault, DeclsFault, Faults}

@@ -1,4 +1,3 @@
-pub mod Bridge
 pub mod Find
 pub mod Equations
 pub mod Uses
@@ -8,3 +7,5 @@ pub mod Unique
 pub mod First
 pub mod Whole
 pub mod Some
+pub mod Induct
+pub mod ExprInduct

@@ -7,7 +7,7 @@ use Rattle.std.proofs.lemmas.Int.{ints}
 use Rattle.bm_base.specs.declared.names.Kind.{Kind}
 use Rattle.bm_base.specs.declared.names.Kind.TheVariants as k
 use Rattle.bm_base.specs.Entry.{Entry}
-use Rattle.bm_base.specs.Names.{place_of, has_room}
+use Rattle.bm_base.specs.Names.{place_of, has_room, AreInRange}
 use Rattle.src_tree.specs.declared.tree.Ident.{Ident}
 use Rattle.src_tree.specs.declared.tree.Expr.{Expr}
 use Rattle.src_tree.specs.declared.tree.Expr.TheVariants as e
@@ -24,7 +24,7 @@ use Rattle.src_names.specs.declared.resolved.RStmt.{RStmt}
 use Rattle.src_names.specs.declared.resolved.RStmt.TheVariants as rs
 use Rattle.src_names.specs.declared.fault.NameFault.{NameFault}
 use Rattle.src_names.specs.declared.fault.NameFault.TheVariants as f
-use Rattle.src_names.specs.Declarations.{AreDeclared, AreInRange, IsNamedWell, name_of}
+use Rattle.src_names.specs.Declarations.{AreDeclared, IsNamedWell, name_of}
 use Rattle.src_names.specs.Declarations as a
 use Rattle.src_names.specs.Named.{IsVar, IsArray, NamedExpr, NamedStmt, NamedBody}
 use Rattle.src_names.specs.Named as n
@@ -128,7 +128,7 @@ data Names (ds : List Decl) : Type 0 where
   names : (es : List Entry) → AreDeclared ds es → AreInRange es → Names ds
   bad : {x : NameFault} → DeclsFault ds x → Names ds
 
-named_well : (x : Decl) → IsPlainDecl x → IsNamedWell x
+pub named_well : (x : Decl) → IsPlainDecl x → IsNamedWell x
 named_well (d.Var m v) h = h.0
 named_well (d.Array m (pos len)) h = (h.0, omega (arith, ints))
 named_well (d.Array m (negsuc len)) h = absurd (h.1)

@@ -17,7 +17,8 @@ use Rattle.src_names.specs.declared.resolved.RExpr.TheVariants as re
 use Rattle.src_names.specs.declared.resolved.RStmt.{RStmt}
 use Rattle.src_names.specs.declared.resolved.RStmt.TheVariants as rs
 use Rattle.src_names.specs.RProgram.{RProgram}
-use Rattle.src_names.specs.Declarations.{AreDeclared, AreInRange}
+use Rattle.src_names.specs.Declarations.{AreDeclared}
+use Rattle.bm_base.specs.Names.{AreInRange}
 use Rattle.src_names.specs.Declarations as a
 use Rattle.src_names.specs.Named.{IsVar, IsArray, NamedExpr, NamedStmt, NamedBody, IsNamed}
 use Rattle.src_names.specs.Named as n

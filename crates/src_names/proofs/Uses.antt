@@ -9,7 +9,8 @@ use Rattle.src_names.specs.declared.resolved.RStmt.{RStmt}
 use Rattle.src_names.specs.declared.fault.NameFault.{NameFault}
 use Rattle.src_names.specs.Named.{IsVar, IsArray, NamedExpr, NamedStmt, NamedBody}
 use Rattle.src_names.specs.Named as n
-use Rattle.src_names.specs.Right.{IsVariableOf, IsArrayOf, RightExpr, RightStmt, RightBody}
+use Rattle.src_names.specs.Right.{RightExpr, RightStmt, RightBody}
+use Rattle.bm_base.specs.Names.{IsVariableOf, IsArrayOf}
 use Rattle.src_names.specs.Right as r
 use Rattle.src_names.specs.Fault.{Use, uses, stmt_uses, body_uses, AsVar, AsArray, AreRightUses, UseFault, UsesFault}
 use Rattle.src_names.proofs.Equations.{uses-number, uses-var, uses-element, uses-one, uses-two, uses-assign, uses-set, uses-print, uses-if, uses-while}

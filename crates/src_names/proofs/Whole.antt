@@ -7,7 +7,8 @@ use Rattle.src_names.specs.declared.resolved.RStmt.{RStmt}
 use Rattle.src_names.specs.declared.fault.NameFault.{NameFault}
 use Rattle.src_names.specs.declared.fault.NameFault.TheVariants as f
 use Rattle.src_names.specs.RProgram.{RProgram}
-use Rattle.src_names.specs.Declarations.{AreDeclared, AreInRange, AreNamedWell}
+use Rattle.src_names.specs.Declarations.{AreDeclared, AreNamedWell}
+use Rattle.bm_base.specs.Names.{AreInRange}
 use Rattle.src_names.specs.Named.{NamedBody, IsNamed}
 use Rattle.src_names.specs.Fault.{body_uses, Faults}
 use Rattle.src_names.specs.Fault as t

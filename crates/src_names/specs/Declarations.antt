@@ -16,11 +16,6 @@ pub data AreDeclared : List Decl → List Entry → Type 0 where
   array : {n : Ident} {len : ℕ} {ds : List Decl} {es : List Entry} → 0 < len → AreDeclared ds es →
       AreDeclared (d.Array n (pos len) ∷ ds) (record { name = n.text; kind = k.Array len } ∷ es)
 
--- no name twice, and all arrays together have at most 1,048,576 elements
-pub record AreInRange (es : List Entry) : Type 0 where
-  pub once : (i j : ℕ) (x z : Entry) → slice_get es i ≡ Some x → slice_get es j ≡ Some z → x.name ≡ z.name → i ≡ j
-  pub room : element_total es ≤ 1048576
-
 -- the declared name
 abbrev pub name_of : Decl → Ident
 name_of (d.Var n v) = n

@@ -1,8 +1,9 @@
 -- The first fault of a program's declarations and uses.
 use Rattle.std.specs.Prelude.{◌≡◌, ◌≢◌, ◌⊎◌, ℕ, ◌+◌, ◌-◌, ◌^◌, ◌<◌, ◌≤◌, min, ℤ, pos, List, [], ◌∷◌, ◌++◌, Some, slice_get, length, map}
+use Rattle.bm_base.specs.declared.limits.TheConstants.{MOST_ELEMENTS}
 use Rattle.bm_base.specs.declared.names.Kind.TheVariants as k
 use Rattle.bm_base.specs.Entry.{Entry}
-use Rattle.bm_base.specs.Names.{element_total}
+use Rattle.bm_base.specs.Names.{element_total, AreInRange}
 use Rattle.src_tree.specs.declared.tree.Ident.{Ident}
 use Rattle.src_tree.specs.declared.tree.Expr.{Expr, Expr-F}
 use Rattle.src_tree.specs.declared.tree.Expr.TheFolds.{fold-Expr}
@@ -13,7 +14,7 @@ use Rattle.src_tree.specs.declared.tree.Decl.TheVariants as d
 use Rattle.src_tree.specs.declared.tree.Program.{Program}
 use Rattle.src_names.specs.declared.fault.NameFault.{NameFault}
 use Rattle.src_names.specs.declared.fault.NameFault.TheVariants as f
-use Rattle.src_names.specs.Declarations.{AreDeclared, AreInRange, name_of}
+use Rattle.src_names.specs.Declarations.{AreDeclared, name_of}
 
 -- a name used as a variable, or as an array
 pub data Use : Type 0 where
@@ -104,7 +105,7 @@ pub record DeclaredAt (front : List Decl) (n : Ident) (first : ℕ) : Type 0 whe
 -- its array has no element or no room.
 pub data DeclFault (front : List Decl) (names : List Entry) : Decl → NameFault → Type 0 where
   twice : {x : Decl} {first : ℕ} → DeclaredAt front (name_of x) first → DeclFault front names x (f.Twice (name_of x).at first)
-  size : {n : Ident} {len : ℕ} → IsFree names n → (len ≡ 0) ⊎ (1048576 < element_total names + len) →
+  size : {n : Ident} {len : ℕ} → IsFree names n → (len ≡ 0) ⊎ (MOST_ELEMENTS < element_total names + len) →
       DeclFault front names (d.Array n (pos len)) (f.ArraySize n.at (pos len))
 
 -- the first fault of these declarations: those before it have none

@@ -15,7 +15,8 @@ use Rattle.src_names.specs.declared.resolved.RExpr.TheVariants as re
 use Rattle.src_names.specs.declared.resolved.RStmt.{RStmt}
 use Rattle.src_names.specs.declared.resolved.RStmt.TheVariants as rs
 use Rattle.src_names.specs.RProgram.{RProgram}
-use Rattle.src_names.specs.Declarations.{AreDeclared, AreInRange}
+use Rattle.src_names.specs.Declarations.{AreDeclared}
+use Rattle.bm_base.specs.Names.{AreInRange}
 
 -- the identifier is the variable of this number
 pub record IsVar (names : List Entry) (n : Ident) (id : ℕ) : Type 0 where

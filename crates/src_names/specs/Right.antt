@@ -2,26 +2,13 @@
 use Rattle.std.specs.Prelude.{◌≡◌, ℕ, ℤ, List, [], ◌∷◌, Some, slice_get}
 use Rattle.bm_base.specs.declared.word.Un.{Un}
 use Rattle.bm_base.specs.declared.word.Bin.{Bin}
-use Rattle.bm_base.specs.declared.names.Kind.TheVariants as k
 use Rattle.bm_base.specs.Entry.{Entry}
-use Rattle.bm_base.specs.Names.{AreNames}
+use Rattle.bm_base.specs.Names.{AreNames, IsVariableOf, IsArrayOf}
 use Rattle.src_names.specs.declared.resolved.RExpr.{RExpr}
 use Rattle.src_names.specs.declared.resolved.RExpr.TheVariants as re
 use Rattle.src_names.specs.declared.resolved.RStmt.{RStmt}
 use Rattle.src_names.specs.declared.resolved.RStmt.TheVariants as rs
 use Rattle.src_names.specs.RProgram.{RProgram}
-
--- the number of a variable
-pub record IsVariableOf (names : List Entry) (id : ℕ) : Type 0 where
-  pub name : List ℕ
-  pub initial : ℤ
-  pub here : slice_get names id ≡ Some (record { name = name; kind = k.Var initial })
-
--- the number of an array
-pub record IsArrayOf (names : List Entry) (id : ℕ) : Type 0 where
-  pub name : List ℕ
-  pub len : ℕ
-  pub here : slice_get names id ≡ Some (record { name = name; kind = k.Array len })
 
 module _ (names : List Entry) where
   -- each name number is declared, and of the right kind

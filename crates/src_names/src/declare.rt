@@ -1,7 +1,8 @@
 //! The names of a tree's declarations.
 
 ghost use Rattle.std.specs.Prelude.{◌≡◌, ◌≢◌, ◌<◌, ◌≤◌, ◌≤ℤ◌, pos, ◌++◌, ◌∷◌, [], length, IfErr, OnOk};
-ghost use Rattle.src_names.specs.Declarations.{AreNamedWell, IsNamedWell, AreDeclared, AreInRange, name_of};
+ghost use Rattle.src_names.specs.Declarations.{AreNamedWell, IsNamedWell, AreDeclared, name_of};
+ghost use Rattle.bm_base.specs.Names.{AreInRange};
 ghost use Rattle.src_names.specs.Fault.{DeclFault, DeclsFault};
 ghost use Rattle.src_names.specs.Adding.{cut_of, kind_of, size_of};
 
@@ -90,10 +91,7 @@ pub(crate) fn declare_all(names: &mut Names, decls: &[Decl]) -> Result<(), NameF
 {
     for decl in decls {
         let earlier = &decls[..names.len()];
-        match declare(names, earlier, decl) {
-            Ok(()) => {}
-            Err(fault) => return Err(fault),
-        }
+        declare(names, earlier, decl)?;
     }
     Ok(())
 }

@@ -11,11 +11,9 @@ use crate::body::name_body;
 use crate::declare::declare_all;
 use crate::fault::NameFault;
 use crate::resolved::Resolved;
-use bm_base::Names;
+use bm_base::{MOST_NAMES, Names};
 use src_tree::Program;
 use std::alloc::Global;
-
-const MOST_NAMES: usize = 1024;
 
 /// The resolved program of a tree of at most 1024 declarations.
 fn name_program(alloc: Global, program: &Program) -> Result<Resolved, NameFault>
@@ -25,14 +23,9 @@ fn name_program(alloc: Global, program: &Program) -> Result<Resolved, NameFault>
     ensures err { IfErr result (λ e. (e ≢ NameFault.Memory) → Faults program.now e) }
 {
     let mut names = Names::new(alloc);
-    match declare_all(&mut names, program.decls.as_slice()) {
-        Ok(()) => {}
-        Err(fault) => return Err(fault),
-    }
-    match name_body(alloc, &names, program.body.as_slice()) {
-        Ok(body) => Ok(Resolved::new(names, body)),
-        Err(fault) => Err(fault),
-    }
+    declare_all(&mut names, program.decls.as_slice())?;
+    let body = name_body(alloc, &names, program.body.as_slice())?;
+    Ok(Resolved::new(names, body))
 }
 
 /// The resolved program of a tree: its declared names, and its statements with a number in the

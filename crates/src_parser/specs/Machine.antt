@@ -1,4 +1,4 @@
--- The parser, token by token.
+-- Private: the parser, token by token. No public clause speaks of it.
 use Rattle.std.specs.Prelude.{ℕ, pos, neg_ℤ, Bool, true, false, List, [], ◌∷◌, ◌++◌, Option, Some, None, nat_le, if◌then◌else◌}
 use Rattle.bm_base.specs.declared.word.Un.TheVariants as un
 use Rattle.bm_base.specs.declared.word.Bin.{Bin}

@@ -1,4 +1,5 @@
--- The counts that are kept beside the state: what is open, and the nodes of the statement that is read.
+-- Private: the counts that are kept beside the state, of what is open and of the nodes of the statement that is read. No public clause
+-- speaks of them.
 use Rattle.std.specs.Prelude.{ℕ, ◌+◌, ◌-◌, Bool, true, false, List, [], ◌∷◌, if◌then◌else◌}
 use Rattle.src_lexer.specs.declared.token.Symbol.{Symbol}
 use Rattle.src_lexer.specs.declared.token.Symbol.TheVariants as y

@@ -1,4 +1,4 @@
--- What one token does to the state and the counts, and why it may be refused.
+-- Private: what one token does to the state and the counts, and why it may be refused. No public clause speaks of it.
 use Rattle.std.specs.Prelude.{◌≡◌, ℕ, ◌<◌, ◌≤◌, ◌⊎◌, List, Some, None, length, Result, MatchResult}
 use Rattle.src_lexer.specs.declared.token.Token.{Token}
 use Rattle.src_tree.specs.declared.tree.Program.{Program}
@@ -26,9 +26,11 @@ abbrev pub Stops : List ℕ → State → Tally → Token → ParseFault → Typ
 Stops src st t token (f.Expected at what) = (at ≡ token.at) × (what ≡ want_of st.mode) × (step src st token ≡ None)
 Stops src st t token (f.TooDeep at) = (at ≡ token.at) × GoesOn src st token × (64 < (tallied token t).depth)
 Stops src st t token (f.TooManyNodes at first) =
-    (at ≡ token.at) × (first ≡ (tallied token t).first) × GoesOn src st token × ((tallied token t).depth ≤ 64) × (120 < (tallied token t).nodes)
+    (at ≡ token.at) × (first ≡ (tallied token t).first) × GoesOn src st token × ((tallied token t).depth ≤ 64)
+    × (120 < (tallied token t).nodes)
 Stops src st t token f.Memory = Unit {0}
 
 -- what the end of the tokens answers
 abbrev pub Finishes : List ℕ → State → Result Program ParseFault → Type 0
-Finishes src st r = MatchResult r (λ p. whole st ≡ Some p) (λ e. (e ≡ f.Memory) ⊎ ((e ≡ f.Expected (length src) (want_of st.mode)) × (whole st ≡ None)))
+Finishes src st r = MatchResult r (λ p. whole st ≡ Some p) (λ e. (e ≡ f.Memory)
+    ⊎ ((e ≡ f.Expected (length src) (want_of st.mode)) × (whole st ≡ None)))

@@ -11,7 +11,7 @@ use crate::stack::Stack;
 use bm_base::{Bin, Un};
 use sqlite_items::{Boxed, Items};
 use src_lexer::{Symbol, Token, TokenKind};
-use src_tree::{Expr, Ident, Stmt};
+use src_tree::{Expr, Ident, Stmt, level};
 use std::alloc::{AllocError, Global};
 
 /// The operator that a symbol is between two operands.
@@ -36,21 +36,6 @@ fn binary(symbol: Symbol) -> Option<Bin>
         Symbol::Div => Some(Bin::Div),
         Symbol::Rem => Some(Bin::Rem),
         _ => None,
-    }
-}
-
-/// How tightly an operator binds: the loosest is 0.
-fn level(op: Bin) -> u8
-    ensures { result ≡ ops.level op }
-{
-    match op {
-        Bin::Or => 0,
-        Bin::Xor => 1,
-        Bin::And => 2,
-        Bin::Eq | Bin::Ne | Bin::Lt | Bin::Le | Bin::Gt | Bin::Ge => 3,
-        Bin::Shl | Bin::Shr => 4,
-        Bin::Add | Bin::Sub => 5,
-        Bin::Mul | Bin::Div | Bin::Rem => 6,
     }
 }
 

@@ -1,6 +1,7 @@
 //! The program that tokens spell.
 
-ghost use Rattle.std.specs.Prelude.{◌≡◌, ◌≢◌, ◌∷◌, ◌++◌, [], List, Some, None, IfOk, OnOk, IfErr, MatchResult, All, ◌⊎◌, if◌then◌else◌, ◌≤◌, ◌<◌, ◌^◌, ◌-◌, length};
+ghost use Rattle.std.specs.Prelude.{◌≡◌, ◌≢◌, ◌∷◌, ◌++◌, [], List, Some, None, IfOk, OnOk, IfErr, MatchResult, All, ◌⊎◌, if◌then◌else◌};
+ghost use Rattle.std.specs.Prelude.{◌≤◌, ◌<◌, ◌^◌, ◌-◌, length};
 ghost use Rattle.src_lexer.specs.Spell.{Spells};
 ghost use Rattle.src_tree.specs.declared.tree.Program.{Program};
 ghost use Rattle.src_tree.specs.Grammar.{Derives};
@@ -19,6 +20,7 @@ use crate::machine::{Mode, State};
 use crate::stack::Stack;
 use crate::tally::{self, Tally};
 use crate::want::want_of;
+use bm_base::{MOST_DEPTH, MOST_NODES};
 use sqlite_items::Items;
 use src_lexer::{Token, spelled_tokens_are_in_order};
 use src_tree::{Decl, Program, Stmt};
@@ -60,10 +62,10 @@ fn turn(
         return Err(ParseFault::Expected { at: token.at, what });
     }
     tally::take(counted, token)?;
-    if counted.depth > 64 {
+    if counted.depth > MOST_DEPTH {
         return Err(ParseFault::TooDeep { at: token.at });
     }
-    if counted.nodes > 120 {
+    if counted.nodes > MOST_NODES {
         return Err(ParseFault::TooManyNodes {
             at: token.at,
             first: counted.first,
@@ -82,10 +84,7 @@ fn read(alloc: Global, src: &[u8], tokens: &[Token], state: &mut State) -> Resul
 {
     let mut counted = tally::nothing(alloc);
     for token in tokens {
-        match turn(alloc, src, state, &mut counted, *token) {
-            Ok(()) => {}
-            Err(fault) => return Err(fault),
-        }
+        turn(alloc, src, state, &mut counted, *token)?;
     }
     Ok(())
 }
@@ -104,10 +103,8 @@ fn unfinished(src: &[u8], mode: &Mode) -> ParseFault
 fn with_last(decls: Items<Decl>, mut body: Items<Stmt>, last: Stmt) -> Result<Program, ParseFault>
     ensures { MatchResult result (λ p. p ≡ record { decls = decls; body = body ++ last ∷ [] }) (λ e. e ≡ ParseFault.Memory) }
 {
-    match body.push(last) {
-        Ok(()) => Ok(Program { decls, body }),
-        Err(_) => Err(ParseFault::Memory),
-    }
+    body.push(last)?;
+    Ok(Program { decls, body })
 }
 
 fn start(alloc: Global) -> State
@@ -129,7 +126,8 @@ fn last(
     mode: Mode,
     fault: ParseFault,
 ) -> Result<Program, ParseFault>
-    ensures { MatchResult result (λ p. spec.last_in decls body mode ≡ Some p) (λ e. (e ≡ ParseFault.Memory) ⊎ ((e ≡ fault) × (spec.last_in decls body mode ≡ None))) }
+    ensures { MatchResult result (λ p. spec.last_in decls body mode ≡ Some p) (λ e. (e ≡ ParseFault.Memory)
+        ⊎ ((e ≡ fault) × (spec.last_in decls body mode ≡ None))) }
 {
     match mode {
         Mode::Item => Ok(Program { decls, body }),
@@ -143,7 +141,8 @@ fn last(
 
 /// The program where no body is open either.
 fn finish(alloc: Global, state: State, fault: ParseFault) -> Result<Program, ParseFault>
-    ensures { MatchResult result (λ p. spec.whole state ≡ Some p) (λ e. (e ≡ ParseFault.Memory) ⊎ ((e ≡ fault) × (spec.whole state ≡ None))) }
+    ensures { MatchResult result (λ p. spec.whole state ≡ Some p) (λ e. (e ≡ ParseFault.Memory)
+        ⊎ ((e ≡ fault) × (spec.whole state ≡ None))) }
 {
     let State {
         decls,
@@ -173,18 +172,16 @@ pub fn parse(alloc: Global, src: &[u8], tokens: &[Token]) -> Result<Program, Par
     // A program has no more statements, those in bodies included, than tokens.
     ensures few { IfOk result (λ p. statements p.body ≤ length tokens.now) }
     // What the tokens derive within the limits is read, unless memory runs out.
-    ensures only { (p : Program) → Derives src.now tokens.now p → KeepsLimits tokens.now → MatchResult result (λ q. q ≡ p) (λ e. e ≡ ParseFault.Memory) }
+    ensures only { (p : Program) → Derives src.now tokens.now p → KeepsLimits tokens.now
+        → MatchResult result (λ q. q ≡ p) (λ e. e ≡ ParseFault.Memory) }
     // A fault is the first, and where there is one, it is told.
     ensures fault { IfErr result (λ e. (e ≢ ParseFault.Memory) → Faults src.now tokens.now e) }
-    ensures only_fault { (e : ParseFault) → Faults src.now tokens.now e → MatchResult result (λ _. ⊥) (λ x. (x ≡ e) ⊎ (x ≡ ParseFault.Memory)) }
+    ensures only_fault { (e : ParseFault) → Faults src.now tokens.now e
+        → MatchResult result (λ _. ⊥) (λ x. (x ≡ e) ⊎ (x ≡ ParseFault.Memory)) }
 {
     spelled_tokens_are_in_order();
     let mut state = start(alloc);
-    match read(alloc, src, tokens, &mut state) {
-        Ok(()) => {
-            let fault = unfinished(src, &state.mode);
-            finish(alloc, state, fault)
-        }
-        Err(fault) => Err(fault),
-    }
+    read(alloc, src, tokens, &mut state)?;
+    let fault = unfinished(src, &state.mode);
+    finish(alloc, state, fault)
 }

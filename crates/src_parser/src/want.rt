@@ -1,7 +1,6 @@
 //! What was expected, by what stands before.
 
 ghost use Rattle.std.specs.Prelude.{◌≡◌, reverse};
-ghost use Rattle.src_lexer.specs.Symbols.{spelling};
 ghost use Rattle.src_parser.specs.Wanted.{want_text};
 ghost use Rattle.src_parser.specs.Machine as spec;
 
@@ -23,38 +22,6 @@ pub enum Want {
     Sym(Symbol),
 }
 
-fn symbol_text(symbol: Symbol) -> &'static [u8]
-    ensures { result.now ≡ spelling symbol }
-{
-    match symbol {
-        Symbol::Semi => b";",
-        Symbol::Assign => b"=",
-        Symbol::LBracket => b"[",
-        Symbol::RBracket => b"]",
-        Symbol::LBrace => b"{",
-        Symbol::RBrace => b"}",
-        Symbol::LParen => b"(",
-        Symbol::RParen => b")",
-        Symbol::Or => b"|",
-        Symbol::Xor => b"^",
-        Symbol::And => b"&",
-        Symbol::Eq => b"==",
-        Symbol::Ne => b"!=",
-        Symbol::Lt => b"<",
-        Symbol::Le => b"<=",
-        Symbol::Gt => b">",
-        Symbol::Ge => b">=",
-        Symbol::Shl => b"<<",
-        Symbol::Shr => b">>",
-        Symbol::Add => b"+",
-        Symbol::Sub => b"-",
-        Symbol::Mul => b"*",
-        Symbol::Div => b"/",
-        Symbol::Rem => b"%",
-        Symbol::Not => b"~",
-    }
-}
-
 impl Want {
     /// How it is printed: `item`, `name`, `number`, `expression`, or the symbol itself.
     pub fn text(self) -> &'static [u8]
@@ -65,7 +32,7 @@ impl Want {
             Want::Name => b"name",
             Want::Number => b"number",
             Want::Expr => b"expression",
-            Want::Sym(symbol) => symbol_text(symbol),
+            Want::Sym(symbol) => symbol.text(),
         }
     }
 }

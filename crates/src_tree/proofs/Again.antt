@@ -2,7 +2,7 @@
 use Rattle.std.proofs.Common.{◌≡◌, ℕ, zero, suc, ◌+◌, ◌-◌, ◌<◌, ◌≤◌, ℤ, pos, negsuc, Bool, true, false, cond, ◌||◌, List, [], ◌∷◌, ◌++◌, length, Some, None, refl, ap, sym, subst, ◌∙◌, arith, append_assoc}
 use Rattle.std.proofs.lemmas.Bool.{ltb-false}
 use Rattle.std.specs.Prelude.{nat_lt, codes}
-use Rattle.std.specs.Char.{is_ascii_digit, is_ascii_alphabetic}
+use Rattle.std.specs.Char.{is_ascii_digit}
 use Rattle.bm_base.specs.declared.word.Un.{Un}
 use Rattle.bm_base.specs.declared.word.Un.TheVariants as un
 use Rattle.bm_base.specs.declared.word.Bin.{Bin}
@@ -12,8 +12,10 @@ use Rattle.src_lexer.specs.declared.token.Symbol.TheVariants as y
 use Rattle.src_lexer.specs.declared.token.TokenKind.{TokenKind}
 use Rattle.src_lexer.specs.declared.token.TokenKind.TheVariants.{Name, Sym}
 use Rattle.src_lexer.specs.declared.token.Token.{Token}
-use Rattle.src_lexer.specs.Symbols.{spelling, pair_of}
-use Rattle.src_lexer.specs.Spell.{is_name_byte}
+use Rattle.src_lexer.specs.Symbols.{spelling}
+use Rattle.src_lexer.proofs.SymbolFacts.{symbol_of}
+use Rattle.bm_base.specs.Names.{begins_name, goes_on_name}
+use Rattle.src_lexer.proofs.Words.{is_name}
 use Rattle.src_tree.specs.declared.tree.Ident.{Ident}
 use Rattle.src_tree.specs.declared.tree.Expr.{Expr, Expr-F}
 use Rattle.src_tree.specs.declared.tree.Expr.TheVariants as e
@@ -29,14 +31,14 @@ use Rattle.src_tree.proofs.Equations.{text-number, text-var, text-element, text-
 use Rattle.src_tree.proofs.Way.{Way, follows, blank, one_symbol, one_word, one_number, Stops, Quiet, slice, end}
 
 -- what is no name byte is no digit
-no_digit_of : (a d u : Bool) → (a || d) || u ≡ false → d ≡ false
-no_digit_of true true u h = cc
-no_digit_of false true u h = cc
-no_digit_of a false u h = refl
+no_digit_of : (a d : Bool) → a || d ≡ false → d ≡ false
+no_digit_of true true h = cc
+no_digit_of false true h = cc
+no_digit_of a false h = refl
 
-pub no_digit : (rest : List ℕ) → Stops is_name_byte rest → Stops is_ascii_digit rest
+pub no_digit : (rest : List ℕ) → Stops goes_on_name rest → Stops is_ascii_digit rest
 no_digit [] s = tt
-no_digit (r ∷ rs) s = no_digit_of (is_ascii_alphabetic r) (is_ascii_digit r) (Rattle.std.specs.Prelude.nat_eq r 95) s
+no_digit (r ∷ rs) s = no_digit_of (begins_name r) (is_ascii_digit r) s
 
 binary-bin_symbol : (op : Bin) → binary (bin_symbol op) ≡ Some op
 binary-bin_symbol bin.Or = refl
@@ -85,7 +87,7 @@ un_quiet un.Not [] = tt
 un_quiet un.Not (r ∷ rs) = refl
 
 -- no symbol goes on behind a byte with which no pair begins
-pub quiet : (b : ℕ) (rest : List ℕ) → ((r : ℕ) → pair_of b r ≡ None) → Quiet (b ∷ []) rest
+pub quiet : (b : ℕ) (rest : List ℕ) → ((r : ℕ) → symbol_of (b ∷ r ∷ []) ≡ None) → Quiet (b ∷ []) rest
 quiet b [] h = tt
 quiet b (r ∷ rs) h = h r
 
@@ -155,11 +157,11 @@ module _ (src : List ℕ) where
     pub way : Way src front n.text (token ∷ [])
     pub same : SameName n (ident src token)
 
-  pub named : (n : Ident) → IsName n → (front rest : List ℕ) → src ≡ front ++ (n.text ++ rest) → Stops is_name_byte rest → Named n front
+  pub named : (n : Ident) → IsName n → (front rest : List ℕ) → src ≡ front ++ (n.text ++ rest) → Stops goes_on_name rest → Named n front
   named n h front rest e s = record {
     token = record { kind = Name; at = length front; end = length (front ++ n.text) };
     is = record { kind = refl };
-    way = one_word src front n.text rest e (h.text).begins (h.text).goes_on s Name (h.text).free (omega (arith, h.short, end src front n.text rest e));
+    way = one_word src front n.text rest e (h.text).begins (h.text).goes_on s Name (is_name n.text (h.text).free) (omega (arith, h.short, end src front n.text rest e));
     same = record { text = sym (slice src front n.text rest e) };
   }
 
@@ -186,7 +188,7 @@ module _ (src : List ℕ) where
     pub same : SameExpr x tree
 
   unfoldable pub Readable : Expr → Text → Type 0
-  Readable x t = (front rest : List ℕ) → src ≡ front ++ (t.bytes ++ rest) → Stops is_name_byte rest → Read x front t.bytes t.level
+  Readable x t = (front rest : List ℕ) → src ≡ front ++ (t.bytes ++ rest) → Stops goes_on_name rest → Read x front t.bytes t.level
 
   read_number : (v : ℤ) → IsCount v → Readable (e.Number v) (text_step (Expr-F.Number v))
   unfolding Readable
@@ -229,7 +231,7 @@ module _ (src : List ℕ) where
 
   -- an operand, in parentheses where it is looser
   tight_at : (b : Bool) (x : Expr) (t : Text) (least : ℕ) → nat_lt t.level least ≡ b → least ≤ operand → Readable x t →
-      (front rest : List ℕ) → src ≡ front ++ (cond b (codes "(" ++ t.bytes ++ codes ")") t.bytes ++ rest) → Stops is_name_byte rest →
+      (front rest : List ℕ) → src ≡ front ++ (cond b (codes "(" ++ t.bytes ++ codes ")") t.bytes ++ rest) → Stops goes_on_name rest →
       Read x front (cond b (codes "(" ++ t.bytes ++ codes ")") t.bytes) least
   unfolding Readable
   tight_at true x t least h small r front rest f s =
@@ -254,7 +256,7 @@ module _ (src : List ℕ) where
       record { tokens = v.tokens; tree = v.tree; way = v.way; is = loosen (t.level - least) (omega (arith, n)) (level_small v.is) v.is; same = v.same }
 
   read_tight : (x : Expr) (t : Text) (least : ℕ) → least ≤ operand → Readable x t → (front rest : List ℕ) → src ≡ front ++ (tight least t ++ rest) →
-      Stops is_name_byte rest → Read x front (tight least t) least
+      Stops goes_on_name rest → Read x front (tight least t) least
   read_tight x t least small r front rest f s = tight_at (nat_lt t.level least) x t least refl small r front rest f s
 
   read_one : (op : Un) (a : Expr) (t : Text) → Readable a t → Readable (e.One op a) (text_step (Expr-F.One op t))

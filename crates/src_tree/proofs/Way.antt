@@ -1,22 +1,24 @@
 -- From a place in a text, over some bytes of it, to the tokens that they spell.
-use Rattle.std.proofs.Common.{◌≡◌, ℕ, zero, suc, ◌+◌, ◌-◌, ◌*◌, ◌/◌, ◌%◌, ◌^◌, ◌<◌, ◌≤◌, pos, Bool, true, false, cond, List, [], ◌∷◌, ◌++◌, length, get_or, Some, None, refl, ap, sym, subst, ◌∙◌, arith, take, drop, append_assoc, length-take, length-drop, All}
+use Rattle.std.proofs.Common.{◌≡◌, ℕ, zero, suc, ◌+◌, ◌-◌, ◌*◌, ◌/◌, ◌%◌, ◌^◌, ◌<◌, ◌≤◌, pos, Bool, true, false, List, [], ◌∷◌, ◌++◌, length, get_or, Some, None, refl, ap, sym, subst, ◌∙◌, arith, take, drop, append_assoc, length-take, length-drop, All}
 use Rattle.std.proofs.lemmas.List.{append-nil, length-append, get_or-append-add}
 use Rattle.std.proofs.Math.Seq.{drop-append_seam, take-append_seam, get_or-append_seam}
 use Rattle.std.proofs.Math.ListN.{get_or-append}
 use Rattle.std.specs.Fmt.{decimal}
 use Rattle.std.proofs.lemmas.Fmt.{decimal_by_steps}
-use Rattle.std.specs.Prelude.{slice_range, ◌==◌}
+use Rattle.std.specs.Prelude.{slice_range}
 use Rattle.std.specs.Char.{is_ascii_digit}
 use Rattle.src_lexer.specs.declared.token.Symbol.{Symbol}
 use Rattle.src_lexer.specs.declared.token.Symbol.TheVariants as y
 use Rattle.src_lexer.specs.declared.token.TokenKind.{TokenKind}
 use Rattle.src_lexer.specs.declared.token.TokenKind.TheVariants.{Number, Sym}
 use Rattle.src_lexer.specs.declared.token.Token.{Token}
-use Rattle.src_lexer.specs.declared.token.Start.{Start}
-use Rattle.src_lexer.specs.declared.token.Start.TheVariants as c
-use Rattle.src_lexer.specs.Symbols.{spelling, word_of, symbol_of, pair_of}
-use Rattle.src_lexer.specs.Spell.{start, IsSpan, IsSymbol, IsPieceOf, IsPiece, Spells, more, token, value_of, value_from, AreAllowed, Allowed, begins_name, is_name_byte, is_white, is_mark}
+use Rattle.src_lexer.specs.Symbols.{spelling, word_of}
+use Rattle.src_lexer.proofs.SymbolFacts.{symbol_of, symbol_of-spelling, short}
+use Rattle.src_lexer.proofs.Unique.{allowed_append}
+use Rattle.src_lexer.specs.Spell.{IsSpan, IsSymbol, IsPiece, white, word, number, symbol, Spells, more, token, value_of, AreAllowed, Allowed, is_white}
 use Rattle.src_lexer.specs.Laws.{BeginsName}
+use Rattle.bm_base.specs.Names.{begins_name, goes_on_name}
+use Rattle.bm_base.specs.Numeral.{value_from}
 
 -- the bytes behind a place do not go on with such a byte
 abbrev pub Stops : (ℕ → Bool) → List ℕ → Type 0
@@ -25,89 +27,8 @@ Stops p (r ∷ rs) = p r ≡ false
 
 -- a symbol of these bytes is not made longer by the bytes behind it
 abbrev pub Quiet : List ℕ → List ℕ → Type 0
-Quiet (b ∷ []) (r ∷ rs) = pair_of b r ≡ None
+Quiet (b ∷ []) (r ∷ rs) = symbol_of (b ∷ r ∷ []) ≡ None
 Quiet _ _ = Unit {0}
-
-symbol_of-spelling : (k : Symbol) → symbol_of (spelling k) ≡ Some k
-symbol_of-spelling y.Semi = refl
-symbol_of-spelling y.Assign = refl
-symbol_of-spelling y.LBracket = refl
-symbol_of-spelling y.RBracket = refl
-symbol_of-spelling y.LBrace = refl
-symbol_of-spelling y.RBrace = refl
-symbol_of-spelling y.LParen = refl
-symbol_of-spelling y.RParen = refl
-symbol_of-spelling y.Or = refl
-symbol_of-spelling y.Xor = refl
-symbol_of-spelling y.And = refl
-symbol_of-spelling y.Eq = refl
-symbol_of-spelling y.Ne = refl
-symbol_of-spelling y.Lt = refl
-symbol_of-spelling y.Le = refl
-symbol_of-spelling y.Gt = refl
-symbol_of-spelling y.Ge = refl
-symbol_of-spelling y.Shl = refl
-symbol_of-spelling y.Shr = refl
-symbol_of-spelling y.Add = refl
-symbol_of-spelling y.Sub = refl
-symbol_of-spelling y.Mul = refl
-symbol_of-spelling y.Div = refl
-symbol_of-spelling y.Rem = refl
-symbol_of-spelling y.Not = refl
-
-symbol_short : (k : Symbol) → length (spelling k) ≤ 2
-symbol_short y.Semi = omega arith
-symbol_short y.Assign = omega arith
-symbol_short y.LBracket = omega arith
-symbol_short y.RBracket = omega arith
-symbol_short y.LBrace = omega arith
-symbol_short y.RBrace = omega arith
-symbol_short y.LParen = omega arith
-symbol_short y.RParen = omega arith
-symbol_short y.Or = omega arith
-symbol_short y.Xor = omega arith
-symbol_short y.And = omega arith
-symbol_short y.Eq = omega arith
-symbol_short y.Ne = omega arith
-symbol_short y.Lt = omega arith
-symbol_short y.Le = omega arith
-symbol_short y.Gt = omega arith
-symbol_short y.Ge = omega arith
-symbol_short y.Shl = omega arith
-symbol_short y.Shr = omega arith
-symbol_short y.Add = omega arith
-symbol_short y.Sub = omega arith
-symbol_short y.Mul = omega arith
-symbol_short y.Div = omega arith
-symbol_short y.Rem = omega arith
-symbol_short y.Not = omega arith
-
-symbol_start : (k : Symbol) → start (get_or (spelling k) 0 0) ≡ c.Mark
-symbol_start y.Semi = refl
-symbol_start y.Assign = refl
-symbol_start y.LBracket = refl
-symbol_start y.RBracket = refl
-symbol_start y.LBrace = refl
-symbol_start y.RBrace = refl
-symbol_start y.LParen = refl
-symbol_start y.RParen = refl
-symbol_start y.Or = refl
-symbol_start y.Xor = refl
-symbol_start y.And = refl
-symbol_start y.Eq = refl
-symbol_start y.Ne = refl
-symbol_start y.Lt = refl
-symbol_start y.Le = refl
-symbol_start y.Gt = refl
-symbol_start y.Ge = refl
-symbol_start y.Shl = refl
-symbol_start y.Shr = refl
-symbol_start y.Add = refl
-symbol_start y.Sub = refl
-symbol_start y.Mul = refl
-symbol_start y.Div = refl
-symbol_start y.Rem = refl
-symbol_start y.Not = refl
 
 symbol_some : (k : Symbol) → 0 < length (spelling k)
 symbol_some y.Semi = omega arith
@@ -136,54 +57,6 @@ symbol_some y.Div = omega arith
 symbol_some y.Rem = omega arith
 symbol_some y.Not = omega arith
 
-letter_above : (b : ℕ) → begins_name b ≡ true → 65 ≤ b
-letter_above b h = grind arith
-
-digit_above : (b : ℕ) → is_ascii_digit b ≡ true → 48 ≤ b
-digit_above b h = grind arith
-
-digit_below : (b : ℕ) → is_ascii_digit b ≡ true → b ≤ 57
-digit_below b h = grind arith
-
-not_white : (b : ℕ) → 48 ≤ b → is_white b ≡ false
-not_white b h = grind arith
-
-not_comment : (b : ℕ) → 48 ≤ b → b == 35 ≡ false
-not_comment b h = grind arith
-
-not_letter : (b : ℕ) → b ≤ 57 → begins_name b ≡ false
-not_letter b h = grind arith
-
-pick_white : (w h a d m : Bool) → w ≡ true → cond w c.White (cond h c.Comment (cond a c.Letter (cond d c.Digit (cond m c.Mark c.Other)))) ≡ c.White
-pick_white true h a d m x = refl
-pick_white false h a d m x = cc
-
-pick_letter : (w h a d m : Bool) → w ≡ false → h ≡ false → a ≡ true → cond w c.White (cond h c.Comment (cond a c.Letter (cond d c.Digit (cond m c.Mark c.Other)))) ≡ c.Letter
-pick_letter true h a d m x y z = cc
-pick_letter false true a d m x y z = cc
-pick_letter false false true d m x y z = refl
-pick_letter false false false d m x y z = cc
-
-pick_digit : (w h a d m : Bool) → w ≡ false → h ≡ false → a ≡ false → d ≡ true → cond w c.White (cond h c.Comment (cond a c.Letter (cond d c.Digit (cond m c.Mark c.Other)))) ≡ c.Digit
-pick_digit true h a d m x y z v = cc
-pick_digit false true a d m x y z v = cc
-pick_digit false false true d m x y z v = cc
-pick_digit false false false true m x y z v = refl
-pick_digit false false false false m x y z v = cc
-
-start_white : (b : ℕ) → is_white b ≡ true → start b ≡ c.White
-start_white b h = pick_white (is_white b) (b == 35) (begins_name b) (is_ascii_digit b) (is_mark b) h
-
-start_letter : (b : ℕ) → begins_name b ≡ true → start b ≡ c.Letter
-start_letter b h =
-    let n : 48 ≤ b = omega (arith, letter_above b h) in
-    pick_letter (is_white b) (b == 35) (begins_name b) (is_ascii_digit b) (is_mark b) (not_white b n) (not_comment b n) h
-
-start_digit : (b : ℕ) → is_ascii_digit b ≡ true → start b ≡ c.Digit
-start_digit b h =
-    let n : 48 ≤ b = digit_above b h in
-    pick_digit (is_white b) (b == 35) (begins_name b) (is_ascii_digit b) (is_mark b) (not_white b n) (not_comment b n) (not_letter b (digit_below b h)) h
-
 -- each of the bytes passes
 abbrev pub Each : (ℕ → Bool) → List ℕ → Type 0
 Each p [] = Unit {0}
@@ -198,9 +71,9 @@ each_more : (p : ℕ → Bool) (bs : List ℕ) (b : ℕ) → Each p bs → p b �
 each_more p [] b h x = (x, tt)
 each_more p (c ∷ bs) b h x = (h.0, each_more p bs b h.1 x)
 
-value_from-more : (n : ℕ) (bs : List ℕ) (b : ℕ) → value_from n (bs ++ b ∷ []) ≡ 10 * value_from n bs + (b - 48)
+value_from-more : (n : ℕ) (bs : List ℕ) (b : ℕ) → value_from n (bs ++ b ∷ []) ≡ value_from n bs * 10 + (b - 48)
 value_from-more n [] b = refl
-value_from-more n (c ∷ bs) b = value_from-more (10 * n + (c - 48)) bs b
+value_from-more n (c ∷ bs) b = value_from-more (n * 10 + (c - 48)) bs b
 
 -- digits whose value is the number
 pub record IsWritten (n : ℕ) (ds : List ℕ) : Type 0 where
@@ -216,7 +89,7 @@ written = decimal_by_steps IsWritten
     (λ n h. record { each = (digit_glyph n h, tt); value = omega arith; some = omega arith })
     (λ n ds h w.
     let v : value_from 0 ds ≡ n / 10 = w.value in
-    let x : value_from 0 (ds ++ (48 + n % 10) ∷ []) ≡ 10 * value_from 0 ds + (48 + n % 10 - 48) = value_from-more 0 ds (48 + n % 10) in
+    let x : value_from 0 (ds ++ (48 + n % 10) ∷ []) ≡ value_from 0 ds * 10 + (48 + n % 10 - 48) = value_from-more 0 ds (48 + n % 10) in
     record { each = each_more is_ascii_digit ds (48 + n % 10) w.each (digit_glyph (n % 10) (omega arith)); value = omega (arith, v, x); some = rw length-append (omega arith) })
 
 module _ (src : List ℕ) where
@@ -276,7 +149,7 @@ longer src front (b ∷ []) (r ∷ rs) e n q up j a h f =
     let w : length (front ++ b ∷ []) ≡ length front + 1 = length-append front (b ∷ []) in
     let v : length (front ++ b ∷ r ∷ []) ≡ length front + 2 = length-append front (b ∷ r ∷ []) in
     let x : length (slice_range src (length front) up) ≡ up - length front = cut src (length front) up (omega (arith, a, w)) h in
-    let z : length (slice_range src (length front) up) ≤ 2 = rw f (symbol_short j) in
+    let z : length (slice_range src (length front) up) ≤ 2 = rw f (short j) in
     let two : up ≡ length (front ++ b ∷ r ∷ []) = omega (arith, a, w, v, x, z) in
     let g : b ∷ r ∷ [] ≡ spelling j = sym (slice src front (b ∷ r ∷ []) rs e) ∙ ap (λ u. slice_range src (length front) u) (sym two) ∙ f in
     let t : None ≡ Some j = sym q ∙ ap symbol_of g ∙ symbol_of-spelling j in
@@ -284,17 +157,13 @@ longer src front (b ∷ []) (r ∷ rs) e n q up j a h f =
 longer src front (b ∷ d ∷ ds) rest e n q up j a h f =
     let w : length (front ++ b ∷ d ∷ ds) ≡ length front + length (b ∷ d ∷ ds) = length-append front (b ∷ d ∷ ds) in
     let x : length (slice_range src (length front) up) ≡ up - length front = cut src (length front) up (omega (arith, a, w)) h in
-    let z : length (slice_range src (length front) up) ≤ 2 = rw f (symbol_short j) in
+    let z : length (slice_range src (length front) up) ≤ 2 = rw f (short j) in
     omega (arith, a, w, x, z)
 
 -- the bytes behind the front are spelled by the tokens
 pub record Way (src front bs : List ℕ) (ts : List Token) : Type 0 where
   pub leads : (us : List Token) → Spells src (length (front ++ bs)) us → Spells src (length front) (ts ++ us)
   pub allowed : AreAllowed src ts
-
-allowed_append : (src : List ℕ) (ts us : List Token) → AreAllowed src ts → AreAllowed src us → AreAllowed src (ts ++ us)
-allowed_append src [] us a b = b
-allowed_append src (t ∷ ts) us a b = (a.0, allowed_append src ts us a.1 b)
 
 -- one behind the other
 pub follows : {src front bs cs : List ℕ} {ts us : List Token} → Way src front bs ts → Way src (front ++ bs) cs us → Way src front (bs ++ cs) (ts ++ us)
@@ -313,41 +182,34 @@ by_piece p a = record { leads = λ us s. more p s; allowed = a }
 -- a blank or a line's end
 pub blank : (src front : List ℕ) (b : ℕ) (rest : List ℕ) → src ≡ front ++ ((b ∷ []) ++ rest) → is_white b ≡ true → Way src front (b ∷ []) []
 blank src front b rest e w =
-    let P : Start → Type 0 = λ k. IsPieceOf src k (length front) (length (front ++ b ∷ [])) [] in
-    let k : start (get_or src (length front) 0) ≡ c.White = ap start (first src front (b ∷ []) rest e) ∙ start_white b w in
     let n : length (front ++ b ∷ []) ≡ suc (length front) = omega (arith, length-append front (b ∷ [])) in
-    by_piece (record { here = place src front (b ∷ []) rest e (omega arith); piece = subst P (sym k) (n, refl) }) tt
+    let here = place src front (b ∷ []) rest e (omega arith) in
+    by_piece (white (record { here = here; passes = ap is_white (first src front (b ∷ []) rest e) ∙ w }) n refl) tt
 
 pub one_symbol : (src front : List ℕ) (k : Symbol) (rest : List ℕ) → src ≡ front ++ (spelling k ++ rest) → Quiet (spelling k) rest →
     Way src front (spelling k) (token (Sym k) (length front) (length (front ++ spelling k)))
 one_symbol src front k rest e q =
     let from = length front in
     let to = length (front ++ spelling k) in
-    let P : Start → Type 0 = λ z. IsPieceOf src z from to (token (Sym k) from to) in
-    let begins : start (get_or src from 0) ≡ c.Mark =
-    ap start (first src front (spelling k) rest e ∙ get_or-append (spelling k) rest 0 0 (symbol_some k)) ∙ symbol_start k in
     let is : IsSymbol src from to k = record {
       ordered = omega (arith, end src front (spelling k) rest e, symbol_some k);
       within = omega (arith, end src front (spelling k) rest e, long src front (spelling k) rest e);
       spelled = slice src front (spelling k) rest e;
       longest = longer src front (spelling k) rest e (symbol_some k) q;
     } in
-    by_piece (record { here = place src front (spelling k) rest e (symbol_some k); piece = subst P (sym begins) (k, is, refl) }) (tt, tt)
+    by_piece (symbol k is refl) (tt, tt)
 
-pub one_word : (src front bs rest : List ℕ) → src ≡ front ++ (bs ++ rest) → BeginsName bs → All (λ b. is_name_byte b ≡ true) bs → Stops is_name_byte rest →
+pub one_word : (src front bs rest : List ℕ) → src ≡ front ++ (bs ++ rest) → BeginsName bs → All (λ b. goes_on_name b ≡ true) bs → Stops goes_on_name rest →
     (k : TokenKind) → word_of bs ≡ k → Allowed src (record { kind = k; at = length front; end = length (front ++ bs) }) k →
     Way src front bs (token k (length front) (length (front ++ bs)))
 one_word src front [] rest e begins each stops k is allowed = absurd begins
 one_word src front (b ∷ bs) rest e begins each stops k is allowed =
     let from = length front in
     let to = length (front ++ b ∷ bs) in
-    let P : Start → Type 0 = λ z. IsPieceOf src z from to (token k from to) in
-    let letter : start (get_or src from 0) ≡ c.Letter = ap start (first src front (b ∷ bs) rest e) ∙ start_letter b begins in
+    let letter : begins_name (get_or src from 0) ≡ true = ap begins_name (first src front (b ∷ bs) rest e) ∙ begins in
     let same : k ≡ word_of (slice_range src from to) = sym is ∙ ap word_of (sym (slice src front (b ∷ bs) rest e)) in
-    by_piece (record {
-      here = place src front (b ∷ bs) rest e (omega arith);
-      piece = subst P (sym letter) (span src front (b ∷ bs) rest e is_name_byte each stops, ap (λ z. token z from to) same);
-    }) (allowed, tt)
+    let here = place src front (b ∷ bs) rest e (omega arith) in
+    by_piece (word (record { here = here; passes = letter }) (span src front (b ∷ bs) rest e goes_on_name each stops) (ap (λ z. token z from to) same)) (allowed, tt)
 
 number_piece : (src front bs rest : List ℕ) (n : ℕ) → src ≡ front ++ (bs ++ rest) → IsWritten n bs → n < 2 ^ 63 → Stops is_ascii_digit rest →
     Way src front bs (token (Number (pos n)) (length front) (length (front ++ bs)))
@@ -355,13 +217,11 @@ number_piece src front [] rest n e w small stops = absurd (omega (arith, w.some)
 number_piece src front (b ∷ bs) rest n e w small stops =
     let from = length front in
     let to = length (front ++ b ∷ bs) in
-    let P : Start → Type 0 = λ z. IsPieceOf src z from to (token (Number (pos n)) from to) in
-    let digit : start (get_or src from 0) ≡ c.Digit = ap start (first src front (b ∷ bs) rest e) ∙ start_digit b (w.each).0 in
+    let digit : is_ascii_digit (get_or src from 0) ≡ true = ap is_ascii_digit (first src front (b ∷ bs) rest e) ∙ (w.each).0 in
     let same : n ≡ value_of (slice_range src from to) = sym w.value ∙ ap value_of (sym (slice src front (b ∷ bs) rest e)) in
-    by_piece (record {
-      here = place src front (b ∷ bs) rest e (omega arith);
-      piece = subst P (sym digit) (span src front (b ∷ bs) rest e is_ascii_digit (all_of is_ascii_digit (b ∷ bs) w.each) stops, ap (λ z. token (Number (pos z)) from to) same);
-    }) (small, tt)
+    let here = place src front (b ∷ bs) rest e (omega arith) in
+    let digits : IsSpan src is_ascii_digit from to = span src front (b ∷ bs) rest e is_ascii_digit (all_of is_ascii_digit (b ∷ bs) w.each) stops in
+    by_piece (number (record { here = here; passes = digit }) digits (ap (λ z. token (Number (pos z)) from to) same)) (small, tt)
 
 pub one_number : (src front : List ℕ) (n : ℕ) (rest : List ℕ) → src ≡ front ++ (decimal n ++ rest) → n < 2 ^ 63 → Stops is_ascii_digit rest →
     Way src front (decimal n) (token (Number (pos n)) (length front) (length (front ++ decimal n)))

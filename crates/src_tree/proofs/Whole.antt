@@ -11,7 +11,8 @@ use Rattle.src_lexer.specs.declared.token.TokenKind.TheVariants.{Number, Word, S
 use Rattle.src_lexer.specs.declared.token.Token.{Token}
 use Rattle.src_lexer.specs.Symbols.{keyword, word_of}
 use Rattle.src_lexer.specs.Laws.{BeginsName}
-use Rattle.src_lexer.specs.Spell.{is_name_byte, Spells, done}
+use Rattle.src_lexer.specs.Spell.{Spells, done}
+use Rattle.bm_base.specs.Names.{goes_on_name}
 use Rattle.src_tree.specs.declared.tree.Ident.{Ident}
 use Rattle.src_tree.specs.declared.tree.Expr.{Expr}
 use Rattle.src_tree.specs.declared.tree.Stmt.{Stmt, Stmt-F}
@@ -48,7 +49,7 @@ keyword_begins w.If = refl
 keyword_begins w.Else = refl
 keyword_begins w.While = refl
 
-keyword_each : (k : Keyword) → Each is_name_byte (keyword k)
+keyword_each : (k : Keyword) → Each goes_on_name (keyword k)
 keyword_each w.Var = (refl, (refl, (refl, tt)))
 keyword_each w.Array = (refl, (refl, (refl, (refl, (refl, tt)))))
 keyword_each w.Print = (refl, (refl, (refl, (refl, (refl, tt)))))
@@ -89,11 +90,11 @@ module _ (src : List ℕ) where
       record { token = o.token; is = o.is; way = follows o.way (blank src (front ++ 125 ∷ []) 10 rest (move src front (125 ∷ []) (10 ∷ rest) f) refl) }
 
   -- a reserved word
-  only_word : (front : List ℕ) (k : Keyword) (rest : List ℕ) → src ≡ front ++ (keyword k ++ rest) → Stops is_name_byte rest → Over src front (keyword k) (Word k)
+  only_word : (front : List ℕ) (k : Keyword) (rest : List ℕ) → src ≡ front ++ (keyword k ++ rest) → Stops goes_on_name rest → Over src front (keyword k) (Word k)
   only_word front k rest f stops = record {
     token = record { kind = Word k; at = length front; end = length (front ++ keyword k) };
     is = record { kind = refl };
-    way = one_word src front (keyword k) rest f (keyword_begins k) (all_of is_name_byte (keyword k) (keyword_each k)) stops (Word k) (keyword_is k) tt;
+    way = one_word src front (keyword k) rest f (keyword_begins k) (all_of goes_on_name (keyword k) (keyword_each k)) stops (Word k) (keyword_is k) tt;
   }
 
   -- a reserved word and a blank
@@ -111,7 +112,7 @@ module _ (src : List ℕ) where
     pub is : IsExpr src 0 tokens tree
     pub same : SameExpr x tree
 
-  whole : (x : Expr) → IsPlainExpr x → (front rest : List ℕ) → src ≡ front ++ (expr_text x ++ rest) → Stops is_name_byte rest → Whole x front
+  whole : (x : Expr) → IsPlainExpr x → (front rest : List ℕ) → src ≡ front ++ (expr_text x ++ rest) → Stops goes_on_name rest → Whole x front
   unfolding Readable
   whole x h front rest f t =
       let v : Read src x front (expr_text x) (text_of x).level = read_expr src h front rest f t in

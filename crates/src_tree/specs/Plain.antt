@@ -2,6 +2,7 @@
 use Rattle.std.specs.Prelude.{◌<◌, ◌≤◌, ◌^◌, ◌+◌, ◌-◌, ℤ, pos, negsuc, List, [], ◌∷◌, length}
 use Rattle.bm_base.specs.declared.word.Un.{Un}
 use Rattle.bm_base.specs.declared.word.Bin.{Bin}
+use Rattle.bm_base.specs.declared.limits.TheConstants.{MOST_NAME_BYTES}
 use Rattle.src_lexer.specs.declared.token.Token.{Token}
 use Rattle.src_lexer.specs.Spell.{Spells}
 use Rattle.src_lexer.specs.Laws.{IsNameText}
@@ -16,10 +17,10 @@ use Rattle.src_tree.specs.declared.tree.Program.{Program}
 use Rattle.src_tree.specs.Text.{program_text}
 use Rattle.src_tree.specs.Limits.{KeepsLimits}
 
--- a name that is not reserved, of at most 64 bytes
+-- a name that is not reserved, of at most MOST_NAME_BYTES bytes
 pub record IsName (n : Ident) : Type 0 where
   pub text : IsNameText n.text
-  pub short : length n.text ≤ 64
+  pub short : length n.text ≤ MOST_NAME_BYTES
 
 -- a word that is 0 or more
 abbrev pub IsCount : ℤ → Type 0

@@ -27,7 +27,8 @@ mutual
     assign : {m n : Ident} {x z : Expr} → SameName m n → SameExpr x z → SameStmt (s.Assign m x) (s.Assign n z)
     set : {m n : Ident} {i j x z : Expr} → SameName m n → SameExpr i j → SameExpr x z → SameStmt (s.SetElement m i x) (s.SetElement n j z)
     print : {x z : Expr} → SameExpr x z → SameStmt (s.Print x) (s.Print z)
-    choose : {x z : Expr} {ks ms us vs : List Stmt} → SameExpr x z → SameBody ks us → SameBody ms vs → SameStmt (s.If x ks ms) (s.If z us vs)
+    choose : {x z : Expr} {ks ms us vs : List Stmt} → SameExpr x z → SameBody ks us → SameBody ms vs
+        → SameStmt (s.If x ks ms) (s.If z us vs)
     repeat : {x z : Expr} {us vs : List Stmt} → SameExpr x z → SameBody us vs → SameStmt (s.While x us) (s.While z vs)
 
   pub data SameBody : List Stmt → List Stmt → Type 0 where

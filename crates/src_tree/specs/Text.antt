@@ -31,7 +31,10 @@ text_step (Expr-F.Number v) = record { level = operand; bytes = signed_decimal v
 text_step (Expr-F.Var n) = record { level = operand; bytes = n.text }
 text_step (Expr-F.Element n i) = record { level = operand; bytes = n.text ++ codes "[" ++ i.bytes ++ codes "]" }
 text_step (Expr-F.One op a) = record { level = operand; bytes = spelling (un_symbol op) ++ tight operand a }
-text_step (Expr-F.Two op a b) = record { level = level op; bytes = tight (level op) a ++ spaced (bin_symbol op) ++ tight (suc (level op)) b }
+text_step (Expr-F.Two op a b) = record {
+  level = level op;
+  bytes = tight (level op) a ++ spaced (bin_symbol op) ++ tight (suc (level op)) b;
+}
 
 -- the text of an expression, by the texts of its parts
 unfoldable pub text_of : Expr → Text

@@ -2,73 +2,24 @@
 
 ghost use Rattle.std.specs.Prelude.{◌≡◌, ◌++◌, ◌≤◌, OnOk, IfOk, map};
 ghost use Rattle.std.specs.Fmt.{signed_decimal};
-ghost use Rattle.src_lexer.specs.Symbols.{spelling};
-ghost use Rattle.src_tree.specs.Operators.{level as spec_level, bin_symbol, un_symbol};
 ghost use Rattle.src_tree.specs.Text.{text_of, tight, expr_text, stmt_text, body_text, decl_text, program_text, joined};
 
+use crate::operators::{bin_symbol, level, un_symbol};
 use crate::tree::{Decl, Expr, Program, Stmt};
-use bm_base::{Bin, Un};
 use std::alloc::{AllocError, Global};
 
 const OPERAND: u8 = 7;
 
-fn bin_level(op: Bin) -> u8
-    ensures value { result ≡ spec_level op }
-    ensures small { result ≤ 6 }
-{
-    match op {
-        Bin::Or => 0,
-        Bin::Xor => 1,
-        Bin::And => 2,
-        Bin::Eq | Bin::Ne | Bin::Lt | Bin::Le | Bin::Gt | Bin::Ge => 3,
-        Bin::Shl | Bin::Shr => 4,
-        Bin::Add | Bin::Sub => 5,
-        Bin::Mul | Bin::Div | Bin::Rem => 6,
-    }
-}
-
 #[tactic(auto, using(crate::proofs::Equations::texts))]
-fn level(x: &Expr) -> u8
+fn expr_level(x: &Expr) -> u8
     ensures { result ≡ (text_of x.now).level }
 {
     match x {
-        Expr::Two { op, .. } => bin_level(*op),
+        Expr::Two { op, .. } => level(*op),
         Expr::Number { .. } => OPERAND,
         Expr::Var { .. } => OPERAND,
         Expr::Element { .. } => OPERAND,
         Expr::One { .. } => OPERAND,
-    }
-}
-
-fn bin_text(op: Bin) -> &'static [u8]
-    ensures { result.now ≡ spelling (bin_symbol op) }
-{
-    match op {
-        Bin::Or => b"|",
-        Bin::Xor => b"^",
-        Bin::And => b"&",
-        Bin::Eq => b"==",
-        Bin::Ne => b"!=",
-        Bin::Lt => b"<",
-        Bin::Le => b"<=",
-        Bin::Gt => b">",
-        Bin::Ge => b">=",
-        Bin::Shl => b"<<",
-        Bin::Shr => b">>",
-        Bin::Add => b"+",
-        Bin::Sub => b"-",
-        Bin::Mul => b"*",
-        Bin::Div => b"/",
-        Bin::Rem => b"%",
-    }
-}
-
-fn un_text(op: Un) -> &'static [u8]
-    ensures { result.now ≡ spelling (un_symbol op) }
-{
-    match op {
-        Un::Neg => b"-",
-        Un::Not => b"~",
     }
 }
 
@@ -83,7 +34,7 @@ fn write_number(out: &mut Vec<u8>, value: i64) -> Result<(), AllocError>
 fn write_tight(out: &mut Vec<u8>, least: u8, x: &Expr) -> Result<(), AllocError>
     ensures { OnOk result (out.new.items ≡ out.old.items ++ tight least (text_of x.now)) }
 {
-    if level(x) < least {
+    if expr_level(x) < least {
         out.extend_from_slice(b"(")?;
         write_expr(out, x)?;
         out.extend_from_slice(b")")
@@ -107,14 +58,14 @@ fn write_expr(out: &mut Vec<u8>, x: &Expr) -> Result<(), AllocError>
             out.extend_from_slice(b"]")
         }
         Expr::One { op, a } => {
-            out.extend_from_slice(un_text(*op))?;
+            out.extend_from_slice(un_symbol(*op).text())?;
             write_tight(out, OPERAND, a.get())
         }
         Expr::Two { op, a, b } => {
-            let level = bin_level(*op);
+            let level = level(*op);
             write_tight(out, level, a.get())?;
             out.extend_from_slice(b" ")?;
-            out.extend_from_slice(bin_text(*op))?;
+            out.extend_from_slice(bin_symbol(*op).text())?;
             out.extend_from_slice(b" ")?;
             write_tight(out, level + 1, b.get())
         }

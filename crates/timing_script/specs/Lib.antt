@@ -1,3 +1,5 @@
-pub mod Duration
+pub mod Laws
 pub mod Script
 pub mod Within
+pub mod Reading
+pub mod Text

@@ -1,17 +1,25 @@
 // The scripts.
 ghost use Rattle.std.specs.Prelude.{◌≡◌, ◌≤◌};
 
-use crate::Timing;
+use crate::seed::offset_by_seed;
+use crate::{Offsets, Timing};
 use bm_base::Interval;
 
 /// A rule that gives each instruction its duration: an offset above the least of its interval,
 /// modulo the number of durations that the interval has.
-#[derive(Debug, PartialEq, Eq, Drop)]
+#[derive(Drop)]
 pub enum Script {
     /// Each instruction takes its least time.
     Least,
     /// Each instruction takes its greatest time.
     Most,
+    /// Pseudorandom offsets from a seed, another for each start of each processor.
+    Seed {
+        /// The seed.
+        n: u64,
+    },
+    /// The offsets of a script file.
+    File(Offsets),
 }
 
 impl Script {
@@ -25,6 +33,8 @@ impl Script {
         match self {
             Script::Least => 0,
             Script::Most => u64::from(interval.most - interval.least),
+            Script::Seed { n } => offset_by_seed(*n, processor, k),
+            Script::File(offsets) => offsets.at(processor, k),
         }
     }
 }
@@ -42,26 +52,4 @@ impl Timing for Script {
     }
 
     ghost within = { script_duration-within };
-}
-
-#[cfg(test)]
-mod tests {
-    use super::*;
-
-    fn time_of<T: Timing>(timing: &T, k: u64, interval: Interval) -> u16
-        requires { interval.least ≤ interval.most }
-        ensures { result ≡ T.duration timing.now 3 k interval }
-    {
-        timing.time(3, k, interval)
-    }
-
-    #[test]
-    fn scripts_take_the_ends_of_the_interval(rt: HostRuntime) {
-        for (k, least, most) in [(0, 1, 1), (1, 4, 12), (9, 7, 7), (u64::MAX, 0, u16::MAX)] {
-            let interval = Interval { least, most };
-            assert!(rt; least <= most);
-            assert_eq!(rt; time_of(&Script::Least, k, interval), least, "least at {k}");
-            assert_eq!(rt; time_of(&Script::Most, k, interval), most, "most at {k}");
-        }
-    }
 }

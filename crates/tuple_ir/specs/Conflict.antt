@@ -2,18 +2,12 @@
 use Rattle.std.specs.Prelude.{◌≡◌, ℕ, ◌<◌, Bool, true, false, ◌||◌, ◌&&◌, not, nat_eq, List, Option, Some, slice_get}
 use Rattle.std.specs.Ordering.{int_eq}
 use Rattle.tuple_ir.specs.declared.tuple.Tuple.{Tuple}
-use Rattle.tuple_ir.specs.declared.tuple.Tuple.TheVariants.{Const, Load, Store, LoadEl, StoreEl, One, Two, Print}
+use Rattle.tuple_ir.specs.declared.tuple.Tuple.TheVariants.{Const, Load, Store, LoadEl, StoreEl, Print}
+use Rattle.tuple_ir.specs.OperandList.{is_among, cells_of}
 
 -- the tuple has this cell among its operands
 abbrev pub uses : Tuple → ℕ → Bool
-uses (Const v) c = false
-uses (Load x) c = false
-uses (Store x v) c = nat_eq v c
-uses (LoadEl x i) c = nat_eq i c
-uses (StoreEl x i v) c = nat_eq i c || nat_eq v c
-uses (One op a) c = nat_eq a c
-uses (Two op a b) c = nat_eq a c || nat_eq b c
-uses (Print v) c = nat_eq v c
+uses t c = is_among c (cells_of t)
 
 -- both touch one variable, and one of them writes it
 abbrev pub share_variable : Tuple → Tuple → Bool

@@ -16,11 +16,14 @@ sum_blocks = record { tuples = sum_tuples; next = Halt } ∷ []
 
 -- A[0] = 7; A[1] = 8; print A[x]; A[0] = 9; with tuple numbers: stores 2, 5 and 10, load 7
 abbrev pub array_tuples : List Tuple
-array_tuples = Const (pos 0) ∷ Const (pos 7) ∷ StoreEl 0 0 1 ∷ Const (pos 1) ∷ Const (pos 8) ∷ StoreEl 0 3 4 ∷ Load 1 ∷ LoadEl 0 6 ∷ Print 7 ∷ Const (pos 9) ∷ StoreEl 0 0 9 ∷ []
+array_tuples = Const (pos 0) ∷ Const (pos 7) ∷ StoreEl 0 0 1 ∷ Const (pos 1) ∷ Const (pos 8) ∷ StoreEl 0 3 4 ∷ Load 1 ∷ LoadEl 0 6
+    ∷ Print 7 ∷ Const (pos 9) ∷ StoreEl 0 0 9 ∷ []
 
 -- while x < 2 { print x; x = x + 1; }: the header is block 1, the body block 2, the exit block 3
 abbrev pub loop_blocks : List Block
-loop_blocks = record { tuples = []; next = Goto 1 } ∷ record { tuples = Load 0 ∷ Const (pos 2) ∷ Two Lt 0 1 ∷ []; next = If 2 2 3 } ∷ record { tuples = Load 0 ∷ Print 0 ∷ Load 0 ∷ Const (pos 1) ∷ Two Add 2 3 ∷ Store 0 4 ∷ []; next = Goto 1 } ∷ record { tuples = []; next = Halt } ∷ []
+loop_blocks = record { tuples = []; next = Goto 1 } ∷ record { tuples = Load 0 ∷ Const (pos 2) ∷ Two Lt 0 1 ∷ []; next = If 2 2 3 }
+    ∷ record { tuples = Load 0 ∷ Print 0 ∷ Load 0 ∷ Const (pos 1) ∷ Two Add 2 3 ∷ Store 0 4 ∷ []; next = Goto 1 }
+    ∷ record { tuples = []; next = Halt } ∷ []
 
 -- one variable that holds 0
 abbrev pub zero_memory : List Content

@@ -33,7 +33,11 @@ block_at blocks b = get_or blocks b no_block
 -- one block more; where it has ended it stays
 abbrev pub one_block : List Block → Option ℕ → World → List ℕ → Outcome
 one_block blocks None w trail = record { next = None; world = w; trail = trail }
-one_block blocks (Some b) w trail = record { next = follows (block_at blocks b).next (block_end (block_at blocks b) w); world = block_end (block_at blocks b) w; trail = trail ++ b ∷ [] }
+one_block blocks (Some b) w trail = record {
+  next = follows (block_at blocks b).next (block_end (block_at blocks b) w);
+  world = block_end (block_at blocks b) w;
+  trail = trail ++ b ∷ [];
+}
 
 -- at most k blocks, from block 0
 abbrev pub outcome : List Block → List Content → ℕ → Outcome

@@ -1,9 +1,10 @@
 -- Cells, memory and output, and what a tuple reads and writes.
-use Rattle.std.specs.Prelude.{ℕ, zero, suc, List, [], ◌∷◌, ◌++◌, Option, Some, None, slice_get, slice_set, get_or, replicate, ℤ, pos}
+use Rattle.std.specs.Prelude.{ℕ, zero, suc, List, [], ◌∷◌, ◌++◌, map, Option, Some, None, slice_get, slice_set, get_or, replicate, ℤ, pos}
 use Rattle.bm_base.specs.Word.{unary_value, binary_value}
 use Rattle.bm_base.specs.Memory.{Content, variable, element, set_variable, set_element}
 use Rattle.tuple_ir.specs.declared.tuple.Tuple.{Tuple}
 use Rattle.tuple_ir.specs.declared.tuple.Tuple.TheVariants.{Const, Load, Store, LoadEl, StoreEl, One, Two, Print}
+use Rattle.tuple_ir.specs.OperandList.{cells_of}
 
 -- what tuples work on: the cells of a block, the memory of the names, and the words printed
 pub record World : Type 0 where
@@ -18,32 +19,39 @@ at_first memory = record { cells = replicate 128 (pos 0); memory = memory; outpu
 abbrev pub cell : World → ℕ → ℤ
 cell w c = get_or w.cells c (pos 0)
 
--- what a tuple reads: its operands, or the variable or element of a load
+-- what a tuple reads: the variable or the element of a load, else its cells in the order of its text
 abbrev pub reads : Tuple → World → List ℤ
-reads (Const v) w = []
 reads (Load x) w = variable w.memory x ∷ []
-reads (Store x v) w = cell w v ∷ []
 reads (LoadEl x i) w = element w.memory x (cell w i) ∷ []
-reads (StoreEl x i v) w = cell w i ∷ cell w v ∷ []
-reads (One op a) w = cell w a ∷ []
-reads (Two op a b) w = cell w a ∷ cell w b ∷ []
-reads (Print v) w = cell w v ∷ []
+reads t w = map (cell w) (cells_of t)
+
+-- the value that a tuple gives, writes or prints, by the words that it read; none where these are too few
+abbrev pub value_of : Tuple → List ℤ → Option ℤ
+value_of (Const v) rs = Some v
+value_of (Load x) (r ∷ rs) = Some r
+value_of (Store x v) (r ∷ rs) = Some r
+value_of (LoadEl x i) (r ∷ rs) = Some r
+value_of (StoreEl x i v) (k ∷ r ∷ rs) = Some r
+value_of (One op a) (r ∷ rs) = Some (unary_value op r)
+value_of (Two op a b) (r ∷ q ∷ rs) = Some (binary_value op r q)
+value_of (Print v) (r ∷ rs) = Some r
+value_of t rs = None
 
 -- the world after cell i has taken a value
 abbrev pub with_cell : World → ℕ → ℤ → World
 with_cell w i v = record w { cells = slice_set w.cells i v }
 
+-- the world after tuple number i has put this value where it belongs: into its variable, into the element at the index that it read
+-- first, to the end of the output, or into its cell
+abbrev pub put : ℕ → Tuple → List ℤ → ℤ → World → World
+put i (Store x v) rs r w = record w { memory = set_variable w.memory x r }
+put i (StoreEl x e v) rs r w = record w { memory = set_element w.memory x (get_or rs 0 (pos 0)) r }
+put i (Print v) rs r w = record w { output = w.output ++ r ∷ [] }
+put i t rs r w = with_cell w i r
+
 -- what tuple number i writes, by what it read
 abbrev pub write : ℕ → Tuple → List ℤ → World → World
-write i (Const v) rs w = with_cell w i v
-write i (Load x) (r ∷ rs) w = with_cell w i r
-write i (Store x v) (r ∷ rs) w = record w { memory = set_variable w.memory x r }
-write i (LoadEl x e) (r ∷ rs) w = with_cell w i r
-write i (StoreEl x e v) (k ∷ r ∷ rs) w = record w { memory = set_element w.memory x k r }
-write i (One op a) (r ∷ rs) w = with_cell w i (unary_value op r)
-write i (Two op a b) (r ∷ q ∷ rs) w = with_cell w i (binary_value op r q)
-write i (Print v) (r ∷ rs) w = record w { output = w.output ++ r ∷ [] }
-write i _ _ w = w
+write i t rs w = elim (value_of t rs) [ Some r ↦ put i t rs r w | None ↦ w ]
 
 -- the tuple of number i, where there is one
 abbrev pub do_tuple : ℕ → Option Tuple → World → World

@@ -1,10 +1,6 @@
 // Blocks: rows of tuples with what follows them.
-ghost use Rattle.std.specs.Prelude.{◌≡◌, ◌++◌, ◌∷◌, [], OnOk, OnErr};
-
 use crate::Tuple;
-use bm_base::Names;
-use std::alloc::{AllocError, Global};
-use std::marker::Model;
+use bm_base::{Names, Sequence};
 
 /// What is run after a block.
 #[derive(Clone, Copy, Debug, PartialEq, Eq)]
@@ -13,51 +9,12 @@ pub enum Next {
     Halt,
     /// The block of this number.
     Goto { block: u32 },
-    /// Block `yes` where the cell is not 0, else block `no`.
+    /// Block `yes` where the cell of tuple number `cell` is not 0, else block `no`.
     If { cell: u8, yes: u32, no: u32 },
 }
 
 /// The tuples of a block, in number order. Contracts see the list.
-#[derive(Drop)]
-pub struct Tuples {
-    list: Vec<Tuple>,
-}
-
-impl Model for Tuples {
-    ghost use Rattle.std.specs.Prelude.{List};
-    ghost use Rattle.tuple_ir.specs.declared.tuple.Tuple.{Tuple};
-
-    ghost Value = { List Tuple };
-
-    ghost view = { λ t. t.list.items };
-}
-
-impl Tuples {
-    /// No tuples. It takes no memory.
-    pub fn new(alloc: Global) -> Tuples
-        ensures { result ≡ [] }
-    {
-        Tuples {
-            list: Vec::new(alloc),
-        }
-    }
-
-    /// Puts a tuple at the end; want of memory changes nothing.
-    pub fn push(&mut self, tuple: Tuple) -> Result<(), AllocError>
-        ensures ok { OnOk result (self.new ≡ self.old ++ tuple ∷ []) }
-        ensures err { OnErr result (self.new ≡ self.old) }
-    {
-        self.list.push(tuple)?;
-        Ok(())
-    }
-
-    /// The tuples in order.
-    pub fn items(&self) -> &[Tuple]
-        ensures { result.now ≡ self.now }
-    {
-        &self.list
-    }
-}
+pub type Tuples = Sequence<Tuple>;
 
 /// Tuples, and what is run after them.
 #[derive(Drop)]
@@ -69,46 +26,7 @@ pub struct Block {
 }
 
 /// Blocks in order; the first is where a run begins. Contracts see the list.
-#[derive(Drop)]
-pub struct BlockList {
-    list: Vec<Block>,
-}
-
-impl Model for BlockList {
-    ghost use Rattle.std.specs.Prelude.{List};
-    ghost use Rattle.tuple_ir.specs.declared.block.Block.{Block};
-
-    ghost Value = { List Block };
-
-    ghost view = { λ b. b.list.items };
-}
-
-impl BlockList {
-    /// No blocks. It takes no memory.
-    pub fn new(alloc: Global) -> BlockList
-        ensures { result ≡ [] }
-    {
-        BlockList {
-            list: Vec::new(alloc),
-        }
-    }
-
-    /// Puts a block at the end; after want of memory the list is as before and the block is gone.
-    pub fn push(&mut self, block: Block) -> Result<(), AllocError>
-        ensures ok { OnOk result (self.new ≡ self.old ++ block ∷ []) }
-        ensures err { OnErr result (self.new ≡ self.old) }
-    {
-        self.list.push(block)?;
-        Ok(())
-    }
-
-    /// The blocks in order.
-    pub fn items(&self) -> &[Block]
-        ensures { result.now ≡ self.now }
-    {
-        &self.list
-    }
-}
+pub type BlockList = Sequence<Block>;
 
 /// A lowered program: its names and its blocks.
 #[derive(Drop)]

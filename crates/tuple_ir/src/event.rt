@@ -1,7 +1,8 @@
 // What happens in a run.
 use bm_base::Mask;
 
-/// One event of a run. `at` is its tick, counted from 0 at the run's start.
+/// One event of a run. `at` is its tick, counted from 0 at the run's start; `processor` counts from 0;
+/// `tuple` is a number in the block that runs, and `block` one in the program.
 #[derive(Clone, Copy, Debug, PartialEq, Eq)]
 pub enum Event {
     /// A processor begins a tuple, which takes `time` ticks.
@@ -25,7 +26,7 @@ pub enum Event {
         tuple: u8,
         value: i64,
     },
-    /// Mask number `index` of the block's queue has fired.
+    /// Mask number `index` of the block's queue, counted from 0, has fired.
     Fired {
         at: u64,
         index: u8,

@@ -1,8 +1,9 @@
 //! The compiler's instructions: tuples, blocks of them, and what they mean in serial order.
 //!
-//! `specs/` has the meaning: which tuples conflict (`Conflict`), what a tuple reads and writes
-//! (`World`), the memories of names (`Memories`), and the outcome of a row of blocks (`Serial`),
-//! with small examples of each.
+//! `specs/` has the meaning: the operands of a tuple in the order of its text (`OperandList`), which
+//! tuples conflict (`Conflict`), what a tuple reads, which value it gives and where that goes
+//! (`World`), which tuples and blocks are sound (`Sound`), and the outcome of a row of blocks
+//! (`Serial`), with small examples.
 #![tactic(auto)]
 
 mod block;

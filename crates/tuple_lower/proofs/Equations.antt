@@ -1,5 +1,5 @@
--- The tuples of each kind of expression and statement, and which are straight.
-use Rattle.std.proofs.Common.{◌≡◌, ℕ, ℤ, Bool, List, map, ap, sym, ◌∙◌}
+-- The tuples and the blocks of each kind of expression and statement.
+use Rattle.std.proofs.Common.{◌≡◌, ℕ, ℤ, List, ap, sym, ◌∙◌}
 use Rattle.bm_base.specs.declared.word.Un.{Un}
 use Rattle.bm_base.specs.declared.word.Bin.{Bin}
 use Rattle.src_names.specs.declared.resolved.RExpr.{RExpr, RExpr-F}
@@ -10,7 +10,6 @@ use Rattle.src_names.specs.declared.resolved.RStmt.TheFolds.{fold-roll-RStmt}
 use Rattle.src_names.specs.declared.resolved.RStmt.TheVariants as s
 use Rattle.tuple_lower.specs.Blocks.{Lowering, put, choice, repetition, lower_step, lower_stmt, lower_body}
 use Rattle.tuple_lower.specs.Lowered.{Row, expr_tuples, expr_step, stmt_tuples, stmt_step}
-use Rattle.tuple_lower.specs.Straight.{straight_expr, expr_test, straight_stmt, stmt_test}
 
 pub tuples-number : (v : ℤ) → expr_tuples (e.Number v) ≡ expr_step (RExpr-F.Number v)
 unfolding expr_tuples
@@ -43,46 +42,6 @@ tuples-set x i v = ap stmt_tuples (sym (s.rolls-SetElement x i v)) ∙ fold-roll
 pub tuples-print : (v : RExpr) → stmt_tuples (s.Print v) ≡ stmt_step (RStmt-F.Print v)
 unfolding stmt_tuples
 tuples-print v = ap stmt_tuples (sym (s.rolls-Print v)) ∙ fold-roll-RStmt Row stmt_step _
-
-pub straight-number : (v : ℤ) → straight_expr (e.Number v) ≡ expr_test (RExpr-F.Number v)
-unfolding straight_expr
-straight-number v = ap straight_expr (sym (e.rolls-Number v)) ∙ fold-roll-RExpr Bool expr_test _
-
-pub straight-var : (x : ℕ) → straight_expr (e.Var x) ≡ expr_test (RExpr-F.Var x)
-unfolding straight_expr
-straight-var x = ap straight_expr (sym (e.rolls-Var x)) ∙ fold-roll-RExpr Bool expr_test _
-
-pub straight-element : (x : ℕ) (i : RExpr) → straight_expr (e.Element x i) ≡ expr_test (RExpr-F.Element x (straight_expr i))
-unfolding straight_expr
-straight-element x i = ap straight_expr (sym (e.rolls-Element x i)) ∙ fold-roll-RExpr Bool expr_test _
-
-pub straight-one : (op : Un) (a : RExpr) → straight_expr (e.One op a) ≡ expr_test (RExpr-F.One op (straight_expr a))
-unfolding straight_expr
-straight-one op a = ap straight_expr (sym (e.rolls-One op a)) ∙ fold-roll-RExpr Bool expr_test _
-
-pub straight-two : (op : Bin) (a b : RExpr) → straight_expr (e.Two op a b) ≡ expr_test (RExpr-F.Two op (straight_expr a) (straight_expr b))
-unfolding straight_expr
-straight-two op a b = ap straight_expr (sym (e.rolls-Two op a b)) ∙ fold-roll-RExpr Bool expr_test _
-
-pub straight-assign : (x : ℕ) (v : RExpr) → straight_stmt (s.Assign x v) ≡ stmt_test (RStmt-F.Assign x v)
-unfolding straight_stmt
-straight-assign x v = ap straight_stmt (sym (s.rolls-Assign x v)) ∙ fold-roll-RStmt Bool stmt_test _
-
-pub straight-set : (x : ℕ) (i v : RExpr) → straight_stmt (s.SetElement x i v) ≡ stmt_test (RStmt-F.SetElement x i v)
-unfolding straight_stmt
-straight-set x i v = ap straight_stmt (sym (s.rolls-SetElement x i v)) ∙ fold-roll-RStmt Bool stmt_test _
-
-pub straight-print : (v : RExpr) → straight_stmt (s.Print v) ≡ stmt_test (RStmt-F.Print v)
-unfolding straight_stmt
-straight-print v = ap straight_stmt (sym (s.rolls-Print v)) ∙ fold-roll-RStmt Bool stmt_test _
-
-pub straight-if : (c : RExpr) (ones others : List RStmt) → straight_stmt (s.If c ones others) ≡ stmt_test (RStmt-F.If c (map straight_stmt ones) (map straight_stmt others))
-unfolding straight_stmt
-straight-if c ones others = ap straight_stmt (sym (s.rolls-If c ones others)) ∙ fold-roll-RStmt Bool stmt_test _
-
-pub straight-while : (c : RExpr) (body : List RStmt) → straight_stmt (s.While c body) ≡ stmt_test (RStmt-F.While c (map straight_stmt body))
-unfolding straight_stmt
-straight-while c body = ap straight_stmt (sym (s.rolls-While c body)) ∙ fold-roll-RStmt Bool stmt_test _
 
 pub lower-assign : (x : ℕ) (v : RExpr) → lower_stmt (s.Assign x v) ≡ put (stmt_step (RStmt-F.Assign x v))
 unfolding lower_stmt

@@ -14,7 +14,7 @@ use Rattle.tuple_ir.specs.declared.tuple.Tuple as t
 use Rattle.tuple_ir.specs.declared.tuple.Tuple.TheVariants as tuple
 use Rattle.tuple_lower.specs.Lowered.{last_of, expr_tuples, expr_step}
 use Rattle.tuple_lower.proofs.Equations.{tuples-number, tuples-var, tuples-element, tuples-one, tuples-two}
-use Rattle.tuple_lower.proofs.ExprInduct.{expr_induct}
+use Rattle.src_names.proofs.ExprInduct.{expr_induct}
 use Rattle.tuple_lower.proofs.Serially.{after_all, after_all-append}
 
 -- tuples from number n on leave memory, output and the cells before them as they were, and this value in the cell of the last

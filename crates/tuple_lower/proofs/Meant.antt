@@ -13,7 +13,8 @@ use Rattle.tuple_ir.specs.declared.block.Block.{Block}
 use Rattle.tuple_ir.specs.declared.block.Next.TheVariants.{Halt}
 use Rattle.tuple_ir.specs.World.{at_first}
 use Rattle.tuple_ir.specs.Serial.{one_block, outcome}
-use Rattle.tuple_ir.proofs.Growth.{IsFrontOf, outcome_grows, ended_stays}
+use Rattle.bm_base.specs.Prefix.{IsPrefixOf}
+use Rattle.tuple_ir.proofs.Growth.{outcome_grows, ended_stays}
 use Rattle.tuple_ir.proofs.Trails.{trail_grows, trail_stays}
 use Rattle.tuple_lower.specs.Blocks.{Piece, block, lower_body}
 use Rattle.tuple_lower.specs.Means.{times, HasEndedAs, KeepsPace, BlocksEnd, BlocksKeepUp, BlocksKeepBack, BlocksKeepPace}
@@ -127,11 +128,11 @@ module _ (p : RProgram) (memory : List Content) (few : AllFewNodes p.body) where
   keeps_some n Done x = (x.steps, x.keeps)
   keeps_some n More x = (x.steps, x.keeps)
 
-  as_prints : (xs ys : List ℤ) → IsFrontOf xs ys → Prints xs ys
+  as_prints : (xs ys : List ℤ) → IsPrefixOf xs ys → Prints xs ys
   as_prints xs ys (rest, e) = record { rest = rest; whole_is = sym e }
 
-  grown : (j k : ℕ) → j ≤ k → IsFrontOf (outcome bs memory j).world.output (outcome bs memory k).world.output
-  grown j k l = let e : j + (k - j) ≡ k = omega (arith, l) in subst (λ i. IsFrontOf (outcome bs memory j).world.output (outcome bs memory i).world.output) e (outcome_grows bs memory j (k - j))
+  grown : (j k : ℕ) → j ≤ k → IsPrefixOf (outcome bs memory j).world.output (outcome bs memory k).world.output
+  grown j k l = let e : j + (k - j) ≡ k = omega (arith, l) in subst (λ i. IsPrefixOf (outcome bs memory j).world.output (outcome bs memory i).world.output) e (outcome_grows bs memory j (k - j))
 
   stayed : (j k : ℕ) → j ≤ k → (outcome bs memory j).next ≡ None → ((outcome bs memory k).next ≡ None) × ((outcome bs memory k).world ≡ (outcome bs memory j).world)
   stayed j k l h = let e : j + (k - j) ≡ k = omega (arith, l) in subst (λ i. ((outcome bs memory i).next ≡ None) × ((outcome bs memory i).world ≡ (outcome bs memory j).world)) e (ended_stays bs memory j (k - j) h)

@@ -14,7 +14,7 @@ use Rattle.tuple_ir.specs.declared.tuple.Tuple as t
 use Rattle.tuple_ir.specs.declared.tuple.Tuple.TheVariants as tuple
 use Rattle.tuple_lower.specs.Lowered.{last_of, expr_tuples}
 use Rattle.tuple_lower.proofs.Equations.{tuples-number, tuples-var, tuples-element, tuples-one, tuples-two}
-use Rattle.tuple_lower.proofs.ExprInduct.{expr_induct}
+use Rattle.src_names.proofs.ExprInduct.{expr_induct}
 
 pub nodes-number : (v : ℤ) → nodes (e.Number v) ≡ 1
 unfolding nodes

@@ -1,8 +1,9 @@
 -- The blocks of a right program are sound.
-use Rattle.std.proofs.Common.{◌≡◌, ◌≤◌, ◌+◌, ℕ, zero, suc, Bool, true, false, List, [], ◌∷◌, ◌++◌, length, Some, nat_eq, refl, sym, subst, arith, append_assoc, length-append, inl, inr}
+use Rattle.std.proofs.Common.{◌≡◌, ◌≤◌, ◌+◌, ℕ, zero, suc, Bool, true, false, List, [], ◌∷◌, ◌++◌, length, Some, refl, sym, subst, arith, append_assoc, length-append}
 use Rattle.std.specs.Prelude.{slice_get, if◌then◌else◌, nat_le}
 use Rattle.bm_base.specs.Entry.{Entry}
-use Rattle.src_names.specs.Right.{RightExpr, RightStmt, RightBody, IsVariableOf, IsArrayOf}
+use Rattle.src_names.specs.Right.{RightExpr, RightStmt, RightBody}
+use Rattle.bm_base.specs.Names.{IsVariableOf, IsArrayOf}
 use Rattle.src_names.specs.Right as r
 use Rattle.src_names.specs.declared.resolved.RExpr.{RExpr}
 use Rattle.src_names.specs.declared.resolved.RStmt.{RStmt, RStmt-F}
@@ -16,9 +17,10 @@ use Rattle.tuple_ir.specs.declared.tuple.Tuple.TheVariants as tuple
 use Rattle.tuple_lower.specs.Lowered.{Row, last_of, expr_tuples, stmt_step}
 use Rattle.tuple_lower.specs.Blocks.{Piece, Lowering, block, cut, put, then_lower, choice, repetition, lower_stmt, lower_body}
 use Rattle.tuple_lower.specs.Means.{blocks_of}
-use Rattle.tuple_lower.specs.Sound.{IsValueBefore, IsTupleSound, IsNextSound, LoweredAreSound}
+use Rattle.tuple_ir.specs.Sound.{IsValueBefore, IsTupleSound, leads_below, IsNextSound}
+use Rattle.tuple_lower.specs.Sound.{LoweredAreSound}
 use Rattle.tuple_lower.proofs.Equations.{lower-assign, lower-set, lower-print, lower-if, lower-while}
-use Rattle.tuple_lower.proofs.Soundness.{SoundFrom, SoundExpr, sound-append, sound_at, value_cell, last_sound, expr_sound, still_before, equal_of, either}
+use Rattle.tuple_lower.proofs.Soundness.{SoundFrom, SoundExpr, sound-append, sound_at, value_cell, last_sound, expr_sound, still_before}
 use Rattle.tuple_lower.proofs.Sizes.{row_length, few-if, few-while, few-first, some_nodes}
 use Rattle.tuple_lower.proofs.Placed.{Tidy, put_fits}
 use Rattle.tuple_lower.proofs.Branches.{expr_size}
@@ -35,14 +37,14 @@ module _ (names : List Entry) where
   AllEnded most [] = Unit {0}
   AllEnded most (x ∷ xs) = IsEnded most x × AllEnded most xs
 
-  next_more : (ts : List t.Tuple) (a b : ℕ) (next : Next) → a ≤ b → IsNextSound ts (a + 1) next → IsNextSound ts (b + 1) next
-  next_more ts a b Halt l h = tt
-  next_more ts a b (Goto x) l h = omega (arith, l, h)
-  next_more ts a b (If c x y) l h = let p = h.1 in let q = h.2 in (h.0, omega (arith, l, p), omega (arith, l, q))
+  leads_more : (a b : ℕ) (next : Next) → a ≤ b → leads_below (a + 1) next → leads_below (b + 1) next
+  leads_more a b Halt l h = tt
+  leads_more a b (Goto x) l h = omega (arith, l, h)
+  leads_more a b (If c x y) l h = let p = h.0 in let q = h.1 in (omega (arith, l, p), omega (arith, l, q))
 
   all_more : (xs : List Block) (a b : ℕ) → a ≤ b → AllEnded a xs → AllEnded b xs
   all_more [] a b l h = tt
-  all_more (x ∷ xs) a b l h = (record { rows = h.0.rows; few = h.0.few; next = next_more x.tuples a b x.next l h.0.next }, all_more xs a b l h.1)
+  all_more (x ∷ xs) a b l h = (record { rows = h.0.rows; few = h.0.few; next = record { leads = leads_more a b x.next l h.0.next.leads; asks = h.0.next.asks } }, all_more xs a b l h.1)
 
   all-append : (xs ys : List Block) (a : ℕ) → AllEnded a xs → AllEnded a ys → AllEnded a (xs ++ ys)
   all-append [] ys a h k = k
@@ -65,7 +67,7 @@ module _ (names : List Entry) where
 
   cut_sound : (c : Bool) (b : ℕ) (ts : List t.Tuple) → length ts ≤ 128 → SoundFrom names [] ts → SoundPiece b (if c then record { ended = []; current = ts } else record { ended = block ts (Goto (b + 1)) ∷ []; current = [] })
   cut_sound true b ts few rows = record { ended = tt; rows = rows }
-  cut_sound false b ts few rows = record { ended = (record { rows = rows; few = few; next = omega arith }, tt); rows = tt }
+  cut_sound false b ts few rows = record { ended = (record { rows = rows; few = few; next = record { leads = omega arith; asks = tt } }, tt); rows = tt }
 
   put_sound : (row : Row) → ((pre : List t.Tuple) → SoundFrom names pre (row (length pre))) → SoundLowering (put row)
   put_sound row h b ts few rows =
@@ -79,12 +81,12 @@ module _ (names : List Entry) where
   assign_row : (x : ℕ) (v : RExpr) → IsVariableOf names x → RightExpr names v → (pre : List t.Tuple) → SoundFrom names pre (stmt_step (RStmt-F.Assign x v) (length pre))
   assign_row x v d h pre =
       let us = expr_tuples v (length pre) in
-      last_sound names pre us (tuple.Store x (last_of (length pre) us)) (expr_sound names h pre) (λ c k. equal_of (last_of (length pre) us) c k) d
+      last_sound names pre us (tuple.Store x (last_of (length pre) us)) (expr_sound names h pre) (record { each = (d, (value_cell names pre us (last_of (length pre) us) (expr_sound names h pre) refl, tt)) })
 
   print_row : (v : RExpr) → RightExpr names v → (pre : List t.Tuple) → SoundFrom names pre (stmt_step (RStmt-F.Print v) (length pre))
   print_row v h pre =
       let us = expr_tuples v (length pre) in
-      last_sound names pre us (tuple.Print (last_of (length pre) us)) (expr_sound names h pre) (λ c k. equal_of (last_of (length pre) us) c k) tt
+      last_sound names pre us (tuple.Print (last_of (length pre) us)) (expr_sound names h pre) (record { each = (value_cell names pre us (last_of (length pre) us) (expr_sound names h pre) refl, tt) })
 
   set_both : (x : ℕ) (pre us vs : List t.Tuple) → IsArrayOf names x → SoundExpr names pre us → SoundExpr names (pre ++ us) vs → SoundFrom names pre (us ++ (vs ++ tuple.StoreEl x (last_of (length pre) us) (last_of (length pre + length us) vs) ∷ []))
   set_both x pre us vs d g h =
@@ -98,13 +100,7 @@ module _ (names : List Entry) where
       let place : last_of (length (pre ++ us)) vs ≡ right = omega (arith, l1) in
       let second : IsValueBefore ((pre ++ us) ++ vs) (length ((pre ++ us) ++ vs)) right = value_cell names (pre ++ us) vs right h place in
       let all : (pre ++ us) ++ vs ≡ pre ++ (us ++ vs) = append_assoc pre us vs in
-      let sound : IsTupleSound names ((pre ++ us) ++ vs) (length ((pre ++ us) ++ vs)) u = record {
-        operands = λ c q. elim (either (nat_eq left c) (nat_eq right c) q) [
-          | inl k ↦ subst (λ x. IsValueBefore ((pre ++ us) ++ vs) (length ((pre ++ us) ++ vs)) x) (equal_of left c k) first
-          | inr k ↦ subst (λ x. IsValueBefore ((pre ++ us) ++ vs) (length ((pre ++ us) ++ vs)) x) (equal_of right c k) second
-        ];
-        names_right = d;
-      } in
+      let sound : IsTupleSound names ((pre ++ us) ++ vs) (length ((pre ++ us) ++ vs)) u = record { each = (d, (first, (second, tt))) } in
       let last : SoundFrom names (pre ++ (us ++ vs)) (u ∷ []) = (subst (λ l. IsTupleSound names l (length l) u) all sound, tt) in
       subst (λ l. SoundFrom names pre l) (append_assoc us vs (u ∷ [])) (sound-append names pre (us ++ vs) (u ∷ []) rows last)
 
@@ -160,9 +156,9 @@ module _ (names : List Entry) where
       let sc = put_sound (expr_tuples c) (expr_row c right) b ts few rows in
       let sy = f (test + 1) [] (omega arith) tt in
       let sn = g (y_last + 1) [] (omega arith) tt in
-      let x_ended : IsEnded hi X = record { rows = sc.rows; few = put_fits (expr_tuples c) (nodes c) b ts (expr_size c few_c); next = (test_cell c right q.current, omega (arith, l1, l2, l3), omega (arith, l1, l2, l3)) } in
-      let y_ended : IsEnded hi Y = record { rows = sy.rows; few = t1.fits (test + 1) [] (omega arith); next = omega (arith, l1, l2, l3) } in
-      let n_ended : IsEnded hi N = record { rows = sn.rows; few = t2.fits (y_last + 1) [] (omega arith); next = omega (arith, l1, l2, l3) } in
+      let x_ended : IsEnded hi X = record { rows = sc.rows; few = put_fits (expr_tuples c) (nodes c) b ts (expr_size c few_c); next = record { leads = (omega (arith, l1, l2, l3), omega (arith, l1, l2, l3)); asks = test_cell c right q.current } } in
+      let y_ended : IsEnded hi Y = record { rows = sy.rows; few = t1.fits (test + 1) [] (omega arith); next = record { leads = omega (arith, l1, l2, l3); asks = tt } } in
+      let n_ended : IsEnded hi N = record { rows = sn.rows; few = t2.fits (y_last + 1) [] (omega arith); next = record { leads = omega (arith, l1, l2, l3); asks = tt } } in
       let all_n = all-append n.ended (N ∷ []) hi (all_more n.ended n_last hi (omega (arith, l1, l2, l3)) sn.ended) (n_ended, tt) in
       let all_y = all-append y.ended (Y ∷ (n.ended ++ N ∷ [])) hi (all_more y.ended y_last hi (omega (arith, l1, l2, l3)) sy.ended) (y_ended, all_n) in
       record { ended = all-append cp.ended (X ∷ (y.ended ++ Y ∷ (n.ended ++ N ∷ []))) hi (all_more cp.ended test hi (omega (arith, l1)) sc.ended) (x_ended, all_y); rows = tt }
@@ -181,9 +177,9 @@ module _ (names : List Entry) where
       let l = length-append y.ended (Y ∷ []) in
       let n = row_length c 0 in
       let sy = f (h + 1) [] (omega arith) tt in
-      let b_ended : IsEnded hi B = record { rows = rows; few = few; next = omega (arith, l) } in
-      let x_ended : IsEnded hi X = record { rows = expr_row c right []; few = omega (arith, n, few_c); next = (test_cell c right [], omega (arith, l), omega (arith, l)) } in
-      let y_ended : IsEnded hi Y = record { rows = sy.rows; few = tl.fits (h + 1) [] (omega arith); next = omega (arith, l) } in
+      let b_ended : IsEnded hi B = record { rows = rows; few = few; next = record { leads = omega (arith, l); asks = tt } } in
+      let x_ended : IsEnded hi X = record { rows = expr_row c right []; few = omega (arith, n, few_c); next = record { leads = (omega (arith, l), omega (arith, l)); asks = test_cell c right [] } } in
+      let y_ended : IsEnded hi Y = record { rows = sy.rows; few = tl.fits (h + 1) [] (omega arith); next = record { leads = omega (arith, l); asks = tt } } in
       record { ended = (b_ended, (x_ended, all-append y.ended (Y ∷ []) hi (all_more y.ended last hi (omega (arith, l)) sy.ended) (y_ended, tt))); rows = tt }
 
   mutual
@@ -212,15 +208,16 @@ lowered_are_sound p right few =
     let n = length-append piece.ended (last ∷ []) in
     let most = 0 + length piece.ended in
     let tidy = body_tidy few in
-    let last_ended : IsEnded p.names most last = record { rows = s.rows; few = tidy.fits 0 [] (omega arith); next = tt } in
+    let last_ended : IsEnded p.names most last = record { rows = s.rows; few = tidy.fits 0 [] (omega arith); next = record { leads = tt; asks = tt } } in
     let all = all-append p.names piece.ended (last ∷ []) most s.ended (last_ended, tt) in
-    let count : most + 1 ≡ length (blocks_of p) = omega (arith, n) in (
-      omega (arith, count),
-      λ b x q.
+    let count : most + 1 ≡ length (blocks_of p) = omega (arith, n) in
+    record {
+      some = omega (arith, count);
+      each = λ b x q.
           let e = ended_at p.names (blocks_of p) most all b x q in
           record {
             few = e.few;
             each = λ i u g. let place : 0 + i ≡ i = omega arith in subst (λ k. IsTupleSound p.names x.tuples k u) place (sound_at p.names [] x.tuples e.rows i u g);
             next = subst (λ k. IsNextSound x.tuples k x.next) count e.next;
-          },
-    )
+          };
+    }

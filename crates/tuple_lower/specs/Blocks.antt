@@ -30,7 +30,8 @@ block tuples next = record { tuples = tuples; next = next }
 -- Where so many tuples more would make the current block pass 128, a new block is opened, the current one ends by a goto it, and the new
 -- one is current.
 abbrev pub cut : ℕ → Lowering
-cut more b ts = if nat_le (length ts + more) 128 then record { ended = []; current = ts } else record { ended = block ts (Goto (b + 1)) ∷ []; current = [] }
+cut more b ts = if nat_le (length ts + more) 128
+    then record { ended = []; current = ts } else record { ended = block ts (Goto (b + 1)) ∷ []; current = [] }
 
 -- the tuples of a row behind those of the current block
 abbrev pub with_row : Row → Piece → Piece
@@ -59,7 +60,11 @@ choice condition first second b ts =
     let else_block = current_of then_block y + 1 in
     let n = second else_block [] in
     let join = current_of else_block n + 1 in
-    record { ended = c.ended ++ block c.current (If (last_of 0 c.current) then_block else_block) ∷ (y.ended ++ block y.current (Goto join) ∷ (n.ended ++ block n.current (Goto join) ∷ [])); current = [] }
+    record {
+      ended = c.ended ++ block c.current (If (last_of 0 c.current) then_block else_block)
+          ∷ (y.ended ++ block y.current (Goto join) ∷ (n.ended ++ block n.current (Goto join) ∷ []));
+      current = [];
+    }
 
 -- The header block is opened, and the current one ends by a goto it. The condition is put there. The body block is opened and the body
 -- lowered; its last block ends by a goto the header. The exit block is opened, which is current. The header ends by an `if` of both.
@@ -68,7 +73,11 @@ repetition condition body b ts =
     let header = b + 1 in
     let y = body (header + 1) [] in
     let exit = current_of (header + 1) y + 1 in
-    record { ended = block ts (Goto header) ∷ block (condition 0) (If (last_of 0 (condition 0)) (header + 1) exit) ∷ (y.ended ++ block y.current (Goto header) ∷ []); current = [] }
+    record {
+      ended = block ts (Goto header) ∷ block (condition 0) (If (last_of 0 (condition 0)) (header + 1) exit)
+          ∷ (y.ended ++ block y.current (Goto header) ∷ []);
+      current = [];
+    }
 
 abbrev pub lower_step : RStmt-F Lowering → Lowering
 lower_step (RStmt-F.Assign x e) = put (stmt_step (RStmt-F.Assign x e))

@@ -1,4 +1,4 @@
--- A piece that is built, and the condition under which more is put behind it.
+-- Private: a piece that is built, and the condition under which more is put behind it. No public clause speaks of it.
 use Rattle.std.specs.Prelude.{[], ◌∷◌, ℕ, ◌+◌, ◌*◌, ◌≤◌, ◌<◌, List, ◌++◌, length, set}
 use Rattle.src_names.specs.declared.resolved.RExpr.{RExpr}
 use Rattle.src_names.specs.declared.resolved.RStmt.{RStmt}
@@ -38,7 +38,8 @@ opened_choice c d = ended_by (continued d (put (expr_tuples c))) Halt
 
 -- both bodies of an `if` stand: the join is opened, and all three blocks lead where they should
 abbrev pub closed_choice : ℕ → ℕ → ℕ → Piece → Piece
-closed_choice test cell end d = with_next test (If cell (test + 1) (end + 1)) (with_next end (Goto (length d.ended + 1)) (ended_by d (Goto (length d.ended + 1))))
+closed_choice test cell end d = with_next test (If cell (test + 1) (end
+    + 1)) (with_next end (Goto (length d.ended + 1)) (ended_by d (Goto (length d.ended + 1))))
 
 -- a `while` whose header stands, before its body; what follows the header is not known yet
 abbrev pub opened_loop : RExpr → Piece → Piece

@@ -1,7 +1,6 @@
+-- The definitions, in the order in which to read them.
+pub mod Lowered
 pub mod Blocks
 pub mod Drafted
-pub mod Lowered
-pub mod Lowers
 pub mod Means
 pub mod Sound
-pub mod Straight

@@ -1,5 +1,5 @@
 -- The tuples of expressions and of statements without bodies. Each tuple is numbered by its place in its block.
-use Rattle.std.specs.Prelude.{ℕ, ◌+◌, ◌-◌, List, [], ◌∷◌, ◌++◌, length, map}
+use Rattle.std.specs.Prelude.{ℕ, ◌+◌, ◌-◌, List, [], ◌∷◌, ◌++◌, length}
 use Rattle.src_names.specs.declared.resolved.RExpr.{RExpr, RExpr-F}
 use Rattle.src_names.specs.declared.resolved.RExpr.TheFolds.{fold-RExpr}
 use Rattle.src_names.specs.declared.resolved.RStmt.{RStmt, RStmt-F}
@@ -21,7 +21,8 @@ expr_step (RExpr-F.Number v) n = tuple.Const v ∷ []
 expr_step (RExpr-F.Var x) n = tuple.Load x ∷ []
 expr_step (RExpr-F.Element x i) n = i n ++ tuple.LoadEl x (last_of n (i n)) ∷ []
 expr_step (RExpr-F.One op a) n = a n ++ tuple.One op (last_of n (a n)) ∷ []
-expr_step (RExpr-F.Two op a b) n = a n ++ (b (n + length (a n)) ++ tuple.Two op (last_of n (a n)) (last_of (n + length (a n)) (b (n + length (a n)))) ∷ [])
+expr_step (RExpr-F.Two op a b) n = a n
+    ++ (b (n + length (a n)) ++ tuple.Two op (last_of n (a n)) (last_of (n + length (a n)) (b (n + length (a n)))) ∷ [])
 
 -- the tuples of an expression
 unfoldable pub expr_tuples : RExpr → Row
@@ -32,7 +33,9 @@ expr_tuples = fold-RExpr Row expr_step
 abbrev pub stmt_step : RStmt-F Row → Row
 stmt_step (RStmt-F.Assign x e) n = expr_tuples e n ++ tuple.Store x (last_of n (expr_tuples e n)) ∷ []
 stmt_step (RStmt-F.SetElement x i e) n =
-    expr_tuples i n ++ (expr_tuples e (n + length (expr_tuples i n)) ++ tuple.StoreEl x (last_of n (expr_tuples i n)) (last_of (n + length (expr_tuples i n)) (expr_tuples e (n + length (expr_tuples i n)))) ∷ [])
+    expr_tuples i n ++ (expr_tuples e (n + length (expr_tuples i n))
+    ++ tuple.StoreEl x (last_of n (expr_tuples i n)) (last_of (n
+    + length (expr_tuples i n)) (expr_tuples e (n + length (expr_tuples i n)))) ∷ [])
 stmt_step (RStmt-F.Print e) n = expr_tuples e n ++ tuple.Print (last_of n (expr_tuples e n)) ∷ []
 stmt_step (RStmt-F.If c ones others) n = []
 stmt_step (RStmt-F.While c body) n = []
@@ -40,11 +43,3 @@ stmt_step (RStmt-F.While c body) n = []
 -- the tuples of a statement
 unfoldable pub stmt_tuples : RStmt → Row
 stmt_tuples = fold-RStmt Row stmt_step
-
--- rows one behind the other
-abbrev pub in_row : List Row → Row
-in_row [] n = []
-in_row (r ∷ rs) n = r n ++ in_row rs (n + length (r n))
-
-abbrev pub body_tuples : List RStmt → Row
-body_tuples body = in_row (map stmt_tuples body)

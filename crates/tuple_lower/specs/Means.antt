@@ -28,18 +28,22 @@ pub record HasEndedAs (o : Outcome) (source : m.Outcome) : Type 0 where
 -- times in their trail.
 abbrev pub BlocksEnd : Type 0
 BlocksEnd = (p : RProgram) (memory : List Content) (n : ℕ) → AllFewNodes p.body → (meaning p memory n).end ≡ Done
-    → HasEndedAs (outcome (blocks_of p) memory ((n + 1) * length (blocks_of p))) (meaning p memory n) × ((b : ℕ) → times b (outcome (blocks_of p) memory ((n + 1) * length (blocks_of p))).trail ≤ n + 1)
+    → HasEndedAs (outcome (blocks_of p) memory ((n + 1) * length (blocks_of p))) (meaning p memory n)
+    × ((b : ℕ) → times b (outcome (blocks_of p) memory ((n + 1) * length (blocks_of p))).trail ≤ n + 1)
 
 -- Where some block stands more than n + 1 times in the trail of k + 1 blocks, the output of k blocks goes on where that of n turns ends.
 abbrev pub BlocksKeepUp : Type 0
-BlocksKeepUp = (p : RProgram) (memory : List Content) (n k b : ℕ) → AllFewNodes p.body → n + 1 < times b (outcome (blocks_of p) memory (k + 1)).trail → Prints (meaning p memory n).output (outcome (blocks_of p) memory k).world.output
+BlocksKeepUp = (p : RProgram) (memory : List Content) (n k b : ℕ) → AllFewNodes p.body
+    → n + 1 < times b (outcome (blocks_of p) memory (k + 1)).trail
+    → Prints (meaning p memory n).output (outcome (blocks_of p) memory k).world.output
 
 -- The output of k turns goes on where that of k + 1 blocks ends. Where these have ended, the source is done within k turns, with the same
 -- memory and output.
 abbrev pub BlocksKeepBack : Type 0
 BlocksKeepBack = (p : RProgram) (memory : List Content) (k : ℕ) → AllFewNodes p.body
     → Prints (outcome (blocks_of p) memory (k + 1)).world.output (meaning p memory k).output
-    × ((outcome (blocks_of p) memory (k + 1)).next ≡ None → ((meaning p memory k).end ≡ Done) × HasEndedAs (outcome (blocks_of p) memory (k + 1)) (meaning p memory k))
+    × ((outcome (blocks_of p) memory (k + 1)).next ≡ None → ((meaning p memory k).end ≡ Done)
+    × HasEndedAs (outcome (blocks_of p) memory (k + 1)) (meaning p memory k))
 
 -- so many blocks have the output of the source, and none stands more than n + 1 times in their trail
 pub record KeepsPace (blocks : List Block) (memory : List Content) (n : ℕ) (source : m.Outcome) : Type 0 where

@@ -4,12 +4,11 @@ ghost use Rattle.tuple_ir.specs.declared.block.Next.TheVariants as next;
 ghost use Rattle.tuple_lower.specs.Blocks.{block, cut, halted};
 ghost use Rattle.tuple_lower.specs.Drafted.{continued, with_next};
 
+use bm_base::MOST_TUPLES;
 use std::alloc::{AllocError, Global};
 use std::marker::Model;
 use std::mem;
 use tuple_ir::{Block, BlockList, Next, Tuple, Tuples};
-
-const MOST: usize = 128;
 
 /// Blocks that are ended, and the tuples of the current block behind them. Contracts see both as one
 /// piece.
@@ -76,7 +75,7 @@ impl Draft {
         requires cells { length self.old.current ≤ 128 }
         ensures { OnOk result (self.new ≡ continued self.old (cut more)) }
     {
-        if self.current.items().len() + more > MOST {
+        if self.current.items().len() + more > MOST_TUPLES {
             let block = self.number() + 1;
             return self.end_by(Next::Goto { block });
         }
@@ -92,13 +91,10 @@ impl Draft {
     }
 
     /// All blocks, the current one with a halt.
-    pub(crate) fn finish(mut self) -> Result<BlockList, AllocError>
+    pub(crate) fn finish(self) -> Result<BlockList, AllocError>
         ensures { IfOk result (λ blocks. blocks ≡ halted self) }
     {
-        let mut blocks = BlockList::new(self.alloc);
-        for block in self.ended {
-            blocks.push(block)?;
-        }
+        let mut blocks = BlockList::from_vec(self.ended);
         blocks.push(Block {
             tuples: self.current,
             next: Next::Halt,

@@ -99,7 +99,8 @@ fn open_choice(cond: &RExpr, draft: &mut Draft) -> Result<Test, AllocError>
     requires cells { length draft.old.current ≤ 128 }
     ensures opened { OnOk result (draft.new ≡ opened_choice cond.now draft.old) }
     ensures number { IfOk result (λ test. test.number + 1 ≡ length draft.new.ended) }
-    ensures cell { IfOk result (λ test. test.cell + 1 ≡ length (put (expr_tuples cond.now) (length draft.old.ended) draft.old.current).current) }
+    ensures cell { IfOk result (λ test. test.cell + 1
+        ≡ length (put (expr_tuples cond.now) (length draft.old.ended) draft.old.current).current) }
 {
     draft.make_room(size(cond))?;
     let cell = put_value(cond, draft)?;

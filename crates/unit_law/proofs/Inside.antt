@@ -8,12 +8,13 @@ use Rattle.line_model.specs.declared.line.StreamItem.{StreamItem}
 use Rattle.line_model.specs.declared.line.StreamItem.TheVariants.{Do, Wait}
 use Rattle.bm_base.specs.Mask.{has_bit}
 use Rattle.line_model.specs.Streams.{stream, masks}
-use Rattle.unit_law.specs.State.{Code, Program, Work, Idle, Busy, Processor, State, at_start, code_at, processor, is_free, is_due, next_item, is_wait, waits}
+use Rattle.unit_law.specs.State.{Code, Program, Work, Idle, Busy, Held, Processor, State, at_start, code_at, processor, is_free, is_due, next_item, is_wait, waits}
 use Rattle.unit_law.specs.Units.{IsReady}
 use Rattle.unit_law.specs.Steps.{Finish, Fire, Start, Advance, IsNext, passed, resumed, freed, begun, read_of, tuple_at, started, after_in, least_tick, or_clock}
 use Rattle.unit_law.specs.Fit.{IsFit}
-use Rattle.unit_law.specs.Determinate.{WorksOn, finished_by}
-use Rattle.unit_law.proofs.Least.{least_is}
+use Rattle.unit_law.specs.Execution.{WorksOn}
+use Rattle.unit_law.proofs.Finishes.{finished_by}
+use Rattle.unit_law.proofs.Least.{Goes, busy_until, held_until, least_is, goes_of, busy_ticks}
 use Rattle.unit_law.proofs.Agree.{Agrees, Ready, fire_keeps, start_keeps}
 use Rattle.unit_law.proofs.Kept.{length-passed, get_or-passed}
 
@@ -21,6 +22,7 @@ use Rattle.unit_law.proofs.Kept.{length-passed, get_or-passed}
 abbrev pub completed_at : Work → ℕ → ℕ
 completed_at Idle place = place
 completed_at (Busy until t operands) place = pred place
+completed_at (Held until) place = place
 
 abbrev pub completed : Processor → ℕ
 completed q = completed_at q.work q.place
@@ -49,6 +51,7 @@ pub record Inside (m : Program) (code : Code) (done : ℕ → Type 0) (s : State
 pub free_completed : (clock : ℕ) (w : Work) (place : ℕ) → is_free clock w ≡ true → completed_at w place ≡ place
 free_completed clock Idle place e = refl
 free_completed clock (Busy until t operands) place e = absurd (both_ways true (sym e) refl)
+free_completed clock (Held until) place e = refl
 
 -- a processor whose Finish is due is one of the machine's
 pub due_within : (s : State) (p : ℕ) → is_due s.clock (processor s p).work ≡ true → p < length s.processors
@@ -73,9 +76,11 @@ agrees_at line place place' fired a e = record { passed_if = λ j p h f. let g =
 pub work_due : (clock : ℕ) (w : Work) → is_due clock w ≡ true → (until t : ℕ) × (operands : List ℤ) × (w ≡ Busy until t operands)
 work_due clock Idle e = absurd (both_ways true (sym e) refl)
 work_due clock (Busy until t operands) e = (until, t, operands, refl)
+work_due clock (Held until) e = absurd (both_ways true (sym e) refl)
 
 pub now_done : (code : Code) (done : ℕ → Type 0) (clock : ℕ) (p place : ℕ) (w : Work) → is_due clock w ≡ true → IsWorkAt code p (record { place = place; work = w }) → IsDoneAt code done p (record { place = place; work = w }) → (k t : ℕ) → slice_get (stream p code.line) k ≡ Some (Do t) → k < place → WorksOn w t ⊎ done t
 now_done code done clock p place Idle due wk dn k t item l = absurd (both_ways true (sym due) refl)
+now_done code done clock p place (Held until) due wk dn k t item l = absurd (both_ways true (sym due) refl)
 now_done code done clock p place (Busy until u operands) due wk dn k t item l =
     let (k', e, at) = wk until u operands refl in go k' e at (cases_lt k k')
   where
@@ -96,29 +101,29 @@ wait_item None e = absurd (both_ways true (sym e) refl)
 wait_item (Some (Do t)) e = absurd (both_ways true (sym e) refl)
 wait_item (Some Wait) e = refl
 
-pub passed_has : (mask : ℕ) (qs : List Processor) (p : ℕ) → p < length qs → has_bit mask p ≡ true → get_or (passed mask 0 qs) p at_start ≡ resumed (get_or qs p at_start)
-passed_has mask qs p lt h = let e : 0 + p ≡ p = omega arith in
-    get_or-passed mask 0 qs p at_start lt ∙ ap (λ k. if has_bit mask k then resumed (get_or qs p at_start) else get_or qs p at_start) e ∙ cond-true _ _ _ h
+pub passed_has : (until mask : ℕ) (qs : List Processor) (p : ℕ) → p < length qs → has_bit mask p ≡ true → get_or (passed until mask 0 qs) p at_start ≡ resumed until (get_or qs p at_start)
+passed_has until mask qs p lt h = let e : 0 + p ≡ p = omega arith in
+    get_or-passed until mask 0 qs p at_start lt ∙ ap (λ k. if has_bit mask k then resumed until (get_or qs p at_start) else get_or qs p at_start) e ∙ cond-true _ _ _ h
 
-pub passed_not : (mask : ℕ) (qs : List Processor) (p : ℕ) → has_bit mask p ≡ false → get_or (passed mask 0 qs) p at_start ≡ get_or qs p at_start
-passed_not mask qs p h = go (cases_lt p (length qs))
+pub passed_not : (until mask : ℕ) (qs : List Processor) (p : ℕ) → has_bit mask p ≡ false → get_or (passed until mask 0 qs) p at_start ≡ get_or qs p at_start
+passed_not until mask qs p h = go (cases_lt p (length qs))
   where
-    go : (p < length qs) ⊎ (length qs ≤ p) → get_or (passed mask 0 qs) p at_start ≡ get_or qs p at_start
+    go : (p < length qs) ⊎ (length qs ≤ p) → get_or (passed until mask 0 qs) p at_start ≡ get_or qs p at_start
     go (inl lt) = let e : 0 + p ≡ p = omega arith in
-        get_or-passed mask 0 qs p at_start lt ∙ ap (λ k. if has_bit mask k then resumed (get_or qs p at_start) else get_or qs p at_start) e ∙ cond-false _ _ _ h
-    go (inr le) = get_or_past (passed mask 0 qs) p at_start (omega (arith, length-passed mask 0 qs)) ∙ sym (get_or_past qs p at_start le)
+        get_or-passed until mask 0 qs p at_start lt ∙ ap (λ k. if has_bit mask k then resumed until (get_or qs p at_start) else get_or qs p at_start) e ∙ cond-false _ _ _ h
+    go (inr le) = get_or_past (passed until mask 0 qs) p at_start (omega (arith, length-passed until mask 0 qs)) ∙ sym (get_or_past qs p at_start le)
 
 -- each processor after a Fire
-pub fired_all : (P : ℕ → Processor → Type 0) (mask : ℕ) (qs : List Processor) → ((p : ℕ) → has_bit mask p ≡ true → p < length qs) → ((p : ℕ) → has_bit mask p ≡ true → P p (resumed (get_or qs p at_start))) → ((p : ℕ) → has_bit mask p ≡ false → P p (get_or qs p at_start)) → (p : ℕ) → P p (get_or (passed mask 0 qs) p at_start)
-fired_all P mask qs bound member other p = go (cases_Bool (has_bit mask p))
+pub fired_all : (P : ℕ → Processor → Type 0) (until mask : ℕ) (qs : List Processor) → ((p : ℕ) → has_bit mask p ≡ true → p < length qs) → ((p : ℕ) → has_bit mask p ≡ true → P p (resumed until (get_or qs p at_start))) → ((p : ℕ) → has_bit mask p ≡ false → P p (get_or qs p at_start)) → (p : ℕ) → P p (get_or (passed until mask 0 qs) p at_start)
+fired_all P until mask qs bound member other p = go (cases_Bool (has_bit mask p))
   where
-    go : (has_bit mask p ≡ true) ⊎ (has_bit mask p ≡ false) → P p (get_or (passed mask 0 qs) p at_start)
-    go (inl h) = subst (P p) (sym (passed_has mask qs p (bound p h) h)) (member p h)
-    go (inr h) = subst (P p) (sym (passed_not mask qs p h)) (other p h)
+    go : (has_bit mask p ≡ true) ⊎ (has_bit mask p ≡ false) → P p (get_or (passed until mask 0 qs) p at_start)
+    go (inl h) = subst (P p) (sym (passed_has until mask qs p (bound p h) h)) (member p h)
+    go (inr h) = subst (P p) (sym (passed_not until mask qs p h)) (other p h)
 
 -- a processor that waits has only done tuples behind it, and a wait in front
-resumed_done : (code : Code) (done : ℕ → Type 0) (p clock : ℕ) (q : Processor) → is_free clock q.work ≡ true → IsDoneAt code done p q → slice_get (stream p code.line) q.place ≡ Some Wait → IsDoneAt code done p (resumed q)
-resumed_done code done p clock q free dn w k t item l = go (cases_lt k q.place)
+resumed_done : (code : Code) (done : ℕ → Type 0) (p clock until : ℕ) (q : Processor) → is_free clock q.work ≡ true → IsDoneAt code done p q → slice_get (stream p code.line) q.place ≡ Some Wait → IsDoneAt code done p (resumed until q)
+resumed_done code done p clock until q free dn w k t item l = go (cases_lt k q.place)
   where
     go : (k < q.place) ⊎ (q.place ≤ k) → done t
     go (inl h) = dn k t item (let e = free_completed clock q.work q.place free in omega arith)
@@ -144,6 +149,14 @@ module _ (m : Program) (b : ℕ) (fit : IsFit m (code_at m b)) (done : ℕ → T
       now : IsDoneAt (code_at m b) (λ t. finished_by s (Finish p) t (done t)) p q
       now k t item l = now_done (code_at m b) done s.clock p (processor s p).place (processor s p).work due (i.work p) (i.finished p) k t item l
 
+  -- the clock goes on
+  pub advance_rise : (t : ℕ) → least_tick s.clock s.processors ≡ Some t → s.clock ≤ t
+  advance_rise t least = let l = least_is s.clock s.processors t least in go l.p (goes_of s.clock t (processor s l.p).work l.is)
+    where
+      go : (p : ℕ) → Goes s.clock t (processor s p).work → s.clock ≤ t
+      go p (busy_until u operands e) = i.ticks p t u operands e
+      go p (held_until e lt) = omega arith
+
   pub advance_inside : (t : ℕ) → least_tick s.clock s.processors ≡ Some t → Inside m (code_at m b) done (after_in m b s Advance)
   advance_inside t least = record {
     processors = i.processors;
@@ -151,7 +164,7 @@ module _ (m : Program) (b : ℕ) (fit : IsFit m (code_at m b)) (done : ℕ → T
     agrees = i.agrees;
     work = i.work;
     finished = i.finished;
-    ticks = λ p until u operands e. let x = (least_is s.clock s.processors t least).least p until u operands e in let y = ap (λ o. or_clock o s.clock) least in omega arith;
+    ticks = λ p until u operands e. let x = (least_is s.clock s.processors t least).least p until (busy_ticks s.clock until u operands _ e) in let y = ap (λ o. or_clock o s.clock) least in omega arith;
   }
 
   started_inside : (p d t : ℕ) (o : Option StreamItem) → next_item (code_at m b) s p ≡ o → IsNext m (code_at m b) s p t → Inside m (code_at m b) done (started (code_at m b) s p d o)
@@ -194,22 +207,22 @@ module _ (m : Program) (b : ℕ) (fit : IsFit m (code_at m b)) (done : ℕ → T
     pub bound : (p : ℕ) → has_bit r.mask p ≡ true → p < length s.processors
     bound p h = let x = fit.members j p (record { mask = r.mask; at = r.at; has = h }) in omega (arith, i.processors)
 
-    behind : (p : ℕ) → has_bit r.mask p ≡ true → IsDoneAt (code_at m b) done p (resumed (processor s p))
-    behind p h = resumed_done (code_at m b) done p s.clock (processor s p) (waits_parts (code_at m b) s p (r.all_wait p h)).0 (i.finished p) (wait_at p h)
+    behind : (p : ℕ) → has_bit r.mask p ≡ true → IsDoneAt (code_at m b) done p (resumed (s.clock + m.machine.delay) (processor s p))
+    behind p h = resumed_done (code_at m b) done p s.clock (s.clock + m.machine.delay) (processor s p) (waits_parts (code_at m b) s p (r.all_wait p h)).0 (i.finished p) (wait_at p h)
 
     -- the state after the Fire, at this mask
     fired_with : ℕ → Type 0
-    fired_with mask = Inside m (code_at m b) done (record s { processors = passed mask 0 s.processors; fired = set s.fired j true })
+    fired_with mask = Inside m (code_at m b) done (record s { processors = passed (s.clock + m.machine.delay) mask 0 s.processors; fired = set s.fired j true })
 
     fire_with : fired_with r.mask
     unfolding fired_with
     fire_with = record {
-      processors = length-passed r.mask 0 s.processors ∙ i.processors;
+      processors = length-passed (s.clock + m.machine.delay) r.mask 0 s.processors ∙ i.processors;
       masks_are = length-set s.fired j true ∙ i.masks_are;
-      agrees = fire_keeps (code_at m b).line (λ p. (processor s p).place) (λ p. (get_or (passed r.mask 0 s.processors) p at_start).place) (λ i. get_or s.fired i false) (λ i. get_or (set s.fired j true) i false) i.agrees j r.mask is_ready (λ p h. ap (λ x. x.place) (passed_has r.mask s.processors p (bound p h) h)) (λ p h. ap (λ x. x.place) (passed_not r.mask s.processors p h)) (get_or-set_same s.fired j true false (let x = slice_get_within (masks (code_at m b).line) j r.mask r.at in omega (arith, i.masks_are))) (λ k ne. get_or-set_other s.fired j k true false ne);
-      work = fired_all (IsWorkAt (code_at m b)) r.mask s.processors bound (λ p h until t operands e. absurd (cc)) (λ p h. i.work p);
-      finished = fired_all (IsDoneAt (code_at m b) done) r.mask s.processors bound behind (λ p h. i.finished p);
-      ticks = fired_all (λ r. IsNotPast s.clock) r.mask s.processors bound (λ p h until t operands e. absurd (cc)) (λ p h. i.ticks p);
+      agrees = fire_keeps (code_at m b).line (λ p. (processor s p).place) (λ p. (get_or (passed (s.clock + m.machine.delay) r.mask 0 s.processors) p at_start).place) (λ i. get_or s.fired i false) (λ i. get_or (set s.fired j true) i false) i.agrees j r.mask is_ready (λ p h. ap (λ x. x.place) (passed_has (s.clock + m.machine.delay) r.mask s.processors p (bound p h) h)) (λ p h. ap (λ x. x.place) (passed_not (s.clock + m.machine.delay) r.mask s.processors p h)) (get_or-set_same s.fired j true false (let x = slice_get_within (masks (code_at m b).line) j r.mask r.at in omega (arith, i.masks_are))) (λ k ne. get_or-set_other s.fired j k true false ne);
+      work = fired_all (IsWorkAt (code_at m b)) (s.clock + m.machine.delay) r.mask s.processors bound (λ p h until t operands e. absurd (cc)) (λ p h. i.work p);
+      finished = fired_all (IsDoneAt (code_at m b) done) (s.clock + m.machine.delay) r.mask s.processors bound behind (λ p h. i.finished p);
+      ticks = fired_all (λ r. IsNotPast s.clock) (s.clock + m.machine.delay) r.mask s.processors bound (λ p h until t operands e. absurd (cc)) (λ p h. i.ticks p);
     }
 
     pub fire_inside : Inside m (code_at m b) done (after_in m b s (Fire j))

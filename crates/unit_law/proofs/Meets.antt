@@ -18,12 +18,12 @@ use Rattle.line_model.specs.declared.line.StreamItem.TheVariants.{Do, Wait}
 use Rattle.line_model.specs.Streams.{stream, masks}
 use Rattle.line_model.specs.Order.{StandsAt}
 use Rattle.unit_law.specs.State.{Code, Program, Mode, In, Entering, Ended, Busy, State, code_at, entered, start, processor, next_item}
-use Rattle.unit_law.specs.Steps.{Action, Finish, Fire, Start, Branch, Advance, Enter, may_to, IsNext, IsAtEnd, AllAtEnd, finished, started, passed, freed, with_processor, or_clock, target, after_in, after_to, state_after, IsRun}
+use Rattle.unit_law.specs.Steps.{Action, Finish, Fire, Start, Branch, Advance, Enter, may_to, IsNext, IsAtEnd, AllAtEnd, finished, started, passed, freed, with_processor, or_clock, target, after_in, after_to, after, state_after, IsRun}
 use Rattle.unit_law.specs.Fit.{IsFit, AllFit, AllStand, AllEarly}
-use Rattle.unit_law.specs.Determinate.{WorksOn, finished_by, HasFinished}
+use Rattle.unit_law.specs.Execution.{WorksOn, HasFinished, execution}
+use Rattle.unit_law.proofs.Finishes.{finished_by, finished_as}
 use Rattle.unit_law.specs.InOrder.{KeepsOrder}
-use Rattle.unit_law.proofs.Least.{Least, least_is}
-use Rattle.unit_law.proofs.Inside.{Inside, completed, free_completed, work_due, mask_is}
+use Rattle.unit_law.proofs.Inside.{Inside, advance_rise, completed, free_completed, work_due, mask_is}
 use Rattle.unit_law.proofs.Ordered.{Holds, run_holds, entered_at, started_mode}
 use Rattle.unit_law.proofs.Values.{IsBehind, Values, entry_values, advance_values, advance_behind, start_values, start_behind, fire_values, fire_behind, finish_values, after_finish, up, now_behind}
 
@@ -112,7 +112,7 @@ module _ (m : Program) (fit : AllFit m) (good : AllEarly m) (stand : AllStand m)
       let (x, y) = finished_values m b (fit b) done s i (outcome m.blocks memory n).world (good b) (outcome_room m.blocks memory n) v p until t operands is hb in
       subst (λ o. Meets m memory n (λ t. finished_by s (Finish p) t (done t)) o (after_in m b s (Finish p))) (sym e) (nx, x, y, le)
   keeps_meets memory n done s (In b) e i (nx, v, hb, le) (Fire j) may order =
-      let mask : passed (get_or (masks (code_at m b).line) j 0) 0 s.processors ≡ passed may.1.mask 0 s.processors = ap (λ k. passed k 0 s.processors) (mask_is m b (fit b) done s i j may.1) in
+      let mask : passed (s.clock + m.machine.delay) (get_or (masks (code_at m b).line) j 0) 0 s.processors ≡ passed (s.clock + m.machine.delay) may.1.mask 0 s.processors = ap (λ k. passed (s.clock + m.machine.delay) k 0 s.processors) (mask_is m b (fit b) done s i j may.1) in
       subst (λ o. Meets m memory n done o (after_in m b s (Fire j))) (sym e) (nx, fire_values m b (fit b) done s i (outcome m.blocks memory n).world (good b) (outcome_room m.blocks memory n) v j may.1 (after_in m b s (Fire j)) mask refl, (λ t h. fire_behind m b (fit b) done s i (outcome m.blocks memory n).world (good b) (outcome_room m.blocks memory n) v j may.1 (after_in m b s (Fire j)) mask refl t (hb t h)), le)
   keeps_meets memory n done s (In b) e i (nx, v, hb, le) (Start p d) may order =
       let (x, y) = started_values m b (fit b) done s i (outcome m.blocks memory n).world (good b) (outcome_room m.blocks memory n) v p d may.1.0 may.1.1 (λ a c. hb a (order p d b a may.1.0 refl refl may.1.1 c)) (next_item (code_at m b) s p) refl in
@@ -121,8 +121,7 @@ module _ (m : Program) (fit : AllFit m) (good : AllEarly m) (stand : AllStand m)
       let w = end_world (code_at m b) (outcome m.blocks memory n).world s v (all_behind m b stand (fit b) s may.1) in
       target_meets m memory (suc n) (λ t. ⊥) (after_in m b s Branch) (code_at m b).next s.world (ap (λ o. (one_block m.blocks o (outcome m.blocks memory n).world (outcome m.blocks memory n).trail).next) nx ∙ ap (λ u. follows (code_at m b).next u) (sym w)) (ap (λ o. (one_block m.blocks o (outcome m.blocks memory n).world (outcome m.blocks memory n).trail).world) nx ∙ sym w) (omega arith)
   keeps_meets memory n done s (In b) e i (nx, v, hb, le) Advance may order =
-      let l : Least s.processors may.3.0 = least_is s.clock s.processors may.3.0 may.3.1 in
-      let rise : s.clock ≤ may.3.0 = i.ticks l.p may.3.0 l.tuple l.read l.is in
+      let rise : s.clock ≤ may.3.0 = advance_rise m b (fit b) done s i may.3.0 may.3.1 in
       subst (λ o. Meets m memory n done o (after_in m b s Advance)) (sym e) (nx, advance_values m b (fit b) done s i (outcome m.blocks memory n).world (good b) (outcome_room m.blocks memory n) v (after_in m b s Advance) refl refl, (λ t h. advance_behind m b (fit b) done s i (outcome m.blocks memory n).world (good b) (outcome_room m.blocks memory n) v (after_in m b s Advance) refl t (hb t h)), (let z = ap (λ o. or_clock o s.clock) may.3.1 in omega arith))
   keeps_meets memory n done s (In b) e i me Enter may order = absurd may
   keeps_meets memory n done s (Entering b) e i (nx, w, le) Enter may order = (nx, entry_values (code_at m b) (outcome m.blocks memory n).world (entered m b (s.clock + 1) s.world) (sym w) (entered_at m.machine.processors), (λ t h. absurd h), le)
@@ -136,4 +135,4 @@ module _ (m : Program) (fit : AllFit m) (good : AllEarly m) (stand : AllStand m)
   pub run_meets : (memory : List Content) (past : List Action) → IsRun m memory past → KeepsOrder m memory past → Meets m memory (blocks_run past) (HasFinished m memory past) (state_after m memory past).mode (state_after m memory past)
   unfolding Meets
   run_meets memory [] r order = (refl, entry_values (code_at m 0) (outcome m.blocks memory 0).world (start m memory) refl (entered_at m.machine.processors), (λ t h. absurd h), omega arith)
-  run_meets memory (a ∷ past) r order = keeps_meets memory (blocks_run past) (HasFinished m memory past) (state_after m memory past) (state_after m memory past).mode refl (run_holds m fit memory past r.0) (run_meets memory past r.0 order.0) a r.1 (λ p d b x t. order.1 p d b x t)
+  run_meets memory (a ∷ past) r order = finished_as (λ done. Meets m memory (more_blocks a (blocks_run past)) done (after m (state_after m memory past) a).mode (after m (state_after m memory past) a)) (execution m memory past) (state_after m memory past) a (keeps_meets memory (blocks_run past) (HasFinished m memory past) (state_after m memory past) (state_after m memory past).mode refl (run_holds m fit memory past r.0) (run_meets memory past r.0 order.0) a r.1 (λ p d b x t. order.1 p d b x t))

@@ -1,5 +1,5 @@
 -- Every run keeps what holds within a block, and so each producer finishes before its consumer starts.
-use Rattle.std.proofs.Common.{◌≡◌, ℕ, zero, suc, ◌+◌, ◌<◌, ◌≤◌, Bool, true, false, List, [], ◌∷◌, map, get_or, replicate, Option, Some, None, pos, refl, sym, ap, ◌∙◌, subst, arith, ◌⊎◌, inl, inr, if◌then◌else◌}
+use Rattle.std.proofs.Common.{◌≡◌, ℕ, zero, suc, ◌+◌, ◌<◌, ◌≤◌, Bool, true, false, List, [], ◌∷◌, get_or, replicate, Option, Some, None, pos, refl, sym, ap, ◌∙◌, subst, arith, ◌⊎◌, inl, inr, if◌then◌else◌}
 use Rattle.std.specs.Ordering.{int_eq}
 use Rattle.std.proofs.lemmas.Bool.{cases_lt, both_ways}
 use Rattle.std.proofs.lemmas.List.{get_or-replicate, length-replicate, length-map, get_or_past}
@@ -12,11 +12,14 @@ use Rattle.line_model.specs.Streams.{masks, before}
 use Rattle.line_model.specs.Order.{StandsAt, IsOrderedBySync}
 use Rattle.bm_base.specs.Memory.{Content}
 use Rattle.tuple_ir.specs.World.{World, cell}
-use Rattle.unit_law.specs.State.{Code, Program, Mode, In, Entering, Ended, Work, Idle, Busy, State, at_start, code_at, entered, processor}
-use Rattle.unit_law.specs.Steps.{Action, Finish, Fire, Start, Branch, Advance, Enter, may_to, IsNext, after_in, after_to, target, started, state_after, IsRun}
+use Rattle.unit_law.specs.State.{Code, Program, Mode, In, Entering, Ended, Work, Idle, Busy, Held, State, at_start, code_at, entered, processor}
+use Rattle.unit_law.specs.Steps.{Action, Finish, Fire, Start, Branch, Advance, Enter, may_to, IsNext, after_in, after_to, after, target, started, state_after, IsRun}
 use Rattle.unit_law.specs.Fit.{IsFit, AllFit, IsSynced}
-use Rattle.unit_law.specs.Determinate.{HasFinished, finished_by, RespectsConflicts}
+use Rattle.unit_law.specs.Execution.{HasFinished, execution}
+use Rattle.unit_law.specs.Determinate.{RespectsConflicts}
+use Rattle.unit_law.proofs.Finishes.{finished_by, finished_as}
 use Rattle.unit_law.proofs.Agree.{chain_passed}
+use Rattle.unit_law.proofs.Fronts.{none_fired}
 use Rattle.unit_law.proofs.Inside.{Inside, IsWorkAt, IsDoneAt, IsNotPast, completed, completed_at, free_completed, finish_inside, advance_inside, start_inside, fire_inside}
 
 pub entered_at : (n p : ℕ) → get_or (replicate n at_start) p at_start ≡ at_start
@@ -25,11 +28,6 @@ entered_at n p = go (cases_lt p n)
     go : (p < n) ⊎ (n ≤ p) → get_or (replicate n at_start) p at_start ≡ at_start
     go (inl h) = get_or-replicate n p at_start at_start h
     go (inr h) = get_or_past (replicate n at_start) p at_start (omega (arith, length-replicate n at_start))
-
-pub none_fired : (ms : List ℕ) (j : ℕ) → get_or (map (λ _. false) ms) j false ≡ false
-none_fired [] j = refl
-none_fired (m ∷ ms) zero = refl
-none_fired (m ∷ ms) (suc j) = none_fired ms j
 
 -- a block's state at its entry
 pub entered_inside : (m : Program) (b clock : ℕ) (w : World) (done : ℕ → Type 0) → Inside m (code_at m b) done (entered m b clock w)
@@ -83,7 +81,7 @@ keeps m fit done s Ended e i a y = absurd y
 pub run_holds : (m : Program) → AllFit m → (memory : List Content) (past : List Action) → IsRun m memory past → Holds m (HasFinished m memory past) (state_after m memory past).mode (state_after m memory past)
 unfolding Holds
 run_holds m fit memory [] r = entered_inside m 0 0 _ _
-run_holds m fit memory (a ∷ past) r = keeps m fit (HasFinished m memory past) (state_after m memory past) (state_after m memory past).mode refl (run_holds m fit memory past r.0) a r.1
+run_holds m fit memory (a ∷ past) r = finished_as (λ done. Holds m done (after m (state_after m memory past) a).mode (after m (state_after m memory past) a)) (execution m memory past) (state_after m memory past) a (keeps m fit (HasFinished m memory past) (state_after m memory past) (state_after m memory past).mode refl (run_holds m fit memory past r.0) a r.1)
 
 -- a tuple that is ordered before an idle processor's next tuple is done
 pub ordered_done : (m : Program) (code : Code) → IsFit m code → (done : ℕ → Type 0) (s : State) → Inside m code done s → (p a b : ℕ) → IsNext m code s p b → IsOrderedBySync code.line a b → done a
@@ -102,6 +100,7 @@ ordered_done m code fit done s i p a b n o = go o
         far_completed Idle place k lt = omega arith
         far_completed (Busy until t operands) zero k lt = absurd (omega arith)
         far_completed (Busy until t operands) (suc place) k lt = omega arith
+        far_completed (Held until) place k lt = let x : suc k < place = lt in let y : k < place = omega arith in y
 
     here : (q l : ℕ) → StandsAt code.line b q l → (q ≡ p) × (l ≡ (processor s p).place)
     here q l at = fit.once b q l p (processor s p).place at (record { item = n.item })

@@ -1,6 +1,6 @@
 -- A state within a block can step.
 use Rattle.std.proofs.Common.{◌≡◌, ℕ, zero, suc, ◌<◌, ◌≤◌, Bool, true, false, not, ◌&&◌, List, [], ◌∷◌, length, get_or, min, Option, Some, None, slice_get, le_refl, refl, sym, ap, ◌∙◌, subst, arith, ◌⊎◌, inl, inr}
-use Rattle.std.proofs.lemmas.Bool.{cases_lt, both_ways, and_parts, and_from, and_cases, not-true, not-false, lt-ltb}
+use Rattle.std.proofs.lemmas.Bool.{cases_lt, both_ways, and_parts, and_from, and_cases, not-true, not-false, cond-true, lt-ltb, leb-false}
 use Rattle.std.proofs.lemmas.Option.{slice_get_within, slice_get-get_or}
 use Rattle.tuple_ir.specs.declared.tuple.Tuple.{Tuple}
 use Rattle.line_model.specs.declared.line.StreamItem.{StreamItem}
@@ -9,13 +9,14 @@ use Rattle.bm_base.specs.Mask.{has_bit}
 use Rattle.line_model.specs.Streams.{stream, masks, before}
 use Rattle.line_model.specs.Order.{HasMember}
 use Rattle.line_model.proofs.LineFacts.{bar_of_wait}
-use Rattle.unit_law.specs.State.{Program, Mode, In, Entering, Ended, Work, Idle, Busy, Processor, State, at_start, code_at, interval_of, processor, is_free, next_item, is_wait, waits}
+use Rattle.unit_law.specs.State.{Program, Mode, In, Entering, Ended, Work, Idle, Busy, Held, Processor, State, at_start, code_at, interval_of, processor, is_free, next_item, is_wait, waits}
 use Rattle.unit_law.specs.Units.{IsUrgent, IsLawful, is_behind}
-use Rattle.unit_law.specs.Steps.{Action, Finish, Fire, Start, Branch, Advance, Enter, NoneDue, MayIn, may_to, IsNext, IsAtEnd, IsTime, least_tick, lesser, tick, state_after}
+use Rattle.unit_law.specs.Steps.{Action, Finish, Fire, Start, Branch, Advance, Enter, NoneDue, MayIn, may_to, IsNext, IsAtEnd, IsDuration, least_tick, lesser, tick, state_after}
 use Rattle.unit_law.specs.Fit.{IsFit, AllFit, HasTimes}
-use Rattle.unit_law.specs.Determinate.{Follows, goes_on, NeverStuck, HasFinished}
+use Rattle.unit_law.specs.Execution.{HasFinished}
+use Rattle.unit_law.specs.Determinate.{Follows, goes_on, NeverStuck}
 use Rattle.unit_law.proofs.Agree.{member_wait}
-use Rattle.unit_law.proofs.Inside.{Inside}
+use Rattle.unit_law.proofs.Inside.{Inside, wait_item}
 use Rattle.unit_law.proofs.Ordered.{Holds, run_holds}
 use Rattle.unit_law.proofs.Search.{First, search_below}
 
@@ -43,11 +44,6 @@ wait_or None e = inr refl
 wait_or (Some Wait) e = inl refl
 wait_or (Some (Do u)) e = absurd (both_ways true e refl)
 
-not_wait : (o : Option StreamItem) → is_wait o ≡ true → o ≡ Some Wait
-not_wait None e = absurd (both_ways true (sym e) refl)
-not_wait (Some (Do t)) e = absurd (both_ways true (sym e) refl)
-not_wait (Some Wait) e = refl
-
 lesser_left : (a : ℕ) (o : Option ℕ) → (t : ℕ) × (lesser (Some a) o ≡ Some t)
 lesser_left a None = (a, refl)
 lesser_left a (Some b) = (min a b, refl)
@@ -56,7 +52,7 @@ lesser_right : (o : Option ℕ) (a : ℕ) → (t : ℕ) × (lesser o (Some a) �
 lesser_right None a = (a, refl)
 lesser_right (Some b) a = (min b a, refl)
 
--- a busy processor gives a least tick
+-- a processor that is not free gives a least tick
 busy_tick : (clock : ℕ) (qs : List Processor) (p : ℕ) → is_free clock (get_or qs p at_start).work ≡ false → (t : ℕ) × (least_tick clock qs ≡ Some t)
 busy_tick clock [] p e = absurd (both_ways true e refl)
 busy_tick clock (q ∷ qs) zero e = go q.work e
@@ -64,6 +60,7 @@ busy_tick clock (q ∷ qs) zero e = go q.work e
     go : (w : Work) → is_free clock w ≡ false → (t : ℕ) × (lesser (tick clock w) (least_tick clock qs) ≡ Some t)
     go Idle e = absurd (both_ways true e refl)
     go (Busy until t operands) e = lesser_left until (least_tick clock qs)
+    go (Held until) e = let (t, h) = lesser_left until (least_tick clock qs) in (t, ap (λ o. lesser o (least_tick clock qs)) (cond-true _ _ _ (lt-ltb clock until (leb-false until clock e))) ∙ h)
 busy_tick clock (q ∷ qs) (suc p) e = let (t, h) = busy_tick clock qs p e in let (u, g) = lesser_right (tick clock q.work) t in (u, ap (lesser (tick clock q.work)) h ∙ g)
 
 module _ (m : Program) (b : ℕ) (fit : IsFit m (code_at m b)) (times : HasTimes m) (done : ℕ → Type 0) (s : State) (i : Inside m (code_at m b) done s) (none : NoneDue s) where
@@ -86,7 +83,7 @@ module _ (m : Program) (b : ℕ) (fit : IsFit m (code_at m b)) (times : HasTimes
           slice_get_in [] t h = absurd (omega arith)
           slice_get_in (x ∷ ts) zero h = (x, refl)
           slice_get_in (x ∷ ts) (suc t) h = slice_get_in ts t (omega arith)
-      go p lt idle t item (Some x) e within = (Start p ((interval_of m x).least), (none, (t, record { is_one = lt; idle = idle; item = item }, subst (λ o. IsTime m o ((interval_of m x).least)) (sym e) (record { low = le_refl _; high = (times x).1 }))), tt)
+      go p lt idle t item (Some x) e within = (Start p ((interval_of m x).least), (none, (t, record { is_one = lt; idle = idle; item = item }, subst (λ o. IsDuration m o ((interval_of m x).least)) (sym e) (record { low = le_refl _; high = (times x).1 }))), tt)
 
   no_start : ((p : ℕ) → p < m.machine.processors → starts p ≡ false) → (p t : ℕ) → IsNext m (code_at m b) s p t → ⊥
   unfolding starts is_do
@@ -147,7 +144,7 @@ module _ (m : Program) (b : ℕ) (fit : IsFit m (code_at m b)) (times : HasTimes
       go : (is_wait (next_item (code_at m b) s p) ≡ true) ⊎ (next_item (code_at m b) s p ≡ None) → next_item (code_at m b) s p ≡ None
       go (inr x) = x
       go (inl x) =
-          let w = bar_of_wait p (code_at m b).line (processor s p).place (not_wait _ x) in
+          let w = bar_of_wait p (code_at m b).line (processor s p).place (wait_item _ x) in
           let f = i.agrees.passed_if w.bar p w.member (all w.bar (slice_get_within _ w.bar w.member.mask w.member.at)) in
           absurd (omega (arith, w.at))
 

@@ -13,7 +13,7 @@ use Rattle.tuple_ir.specs.Operands.{HasEarlyOperands}
 use Rattle.tuple_ir.specs.World.{World, write, serial, do_tuple}
 use Rattle.tuple_ir.proofs.WorldFacts.{Place, look, shape, writes, write_shape, write_other, write_same}
 use Rattle.tuple_ir.proofs.Serial.{IsRead, reads_same, Writes, writes_some, serial_shape, serial_same, writes_conflict, read_conflict, write_conflict}
-use Rattle.unit_law.specs.State.{Code, Program, Work, Idle, Busy, Processor, State, at_start, code_at, processor, waits}
+use Rattle.unit_law.specs.State.{Code, Program, Work, Idle, Busy, Held, Processor, State, at_start, code_at, processor, waits}
 use Rattle.unit_law.specs.Units.{IsReady}
 use Rattle.unit_law.specs.Steps.{IsNext, tuple_at, read_of, written, freed, begun, resumed, passed, with_processor}
 use Rattle.unit_law.specs.Fit.{IsFit}
@@ -41,6 +41,7 @@ pub record Values (code : Code) (w : World) (s : State) : Type 0 where
 completed_le : (w : Work) (place : ℕ) → completed_at w place ≤ place
 completed_le Idle place = le_refl _
 completed_le (Busy until t operands) place = let x : pred place ≤ place = omega arith in x
+completed_le (Held until) place = le_refl _
 
 pub begun_of : (code : Code) (s : State) (t : ℕ) → IsBehind code s t → IsBegun code s t
 begun_of code s t h = record { p = h.p; k = h.k; at = h.at; lt = let x = completed_le (processor s h.p).work (processor s h.p).place in let y = h.lt in omega arith }
@@ -130,12 +131,12 @@ module _ (m : Program) (b : ℕ) (fit : IsFit m (code_at m b)) (done : ℕ → T
                 let g : c ≡ t = cc in producers a (subst (Conflict (code_at m b).tuples a) g x)
 
   -- ---- Fire
-  module _ (j : ℕ) (r : IsReady (masks (code_at m b).line) s.fired (waits (code_at m b) s) j) (s' : State) (ep : s'.processors ≡ passed r.mask 0 s.processors) (ew : s'.world ≡ s.world) where
+  module _ (j : ℕ) (r : IsReady (masks (code_at m b).line) s.fired (waits (code_at m b) s) j) (s' : State) (ep : s'.processors ≡ passed (s.clock + m.machine.delay) r.mask 0 s.processors) (ew : s'.world ≡ s.world) where
     -- what a member of the mask has behind it is one wait more
     fire_each : (q : ℕ) → ((k t : ℕ) → slice_get (stream q (code_at m b).line) k ≡ Some (Do t) → ((k < completed (processor s' q) → k < completed (processor s q)) × (k < completed (processor s q) → k < completed (processor s' q)) × (k < (processor s' q).place → k < (processor s q).place)))
-    fire_each q = subst (λ qs. (k t : ℕ) → slice_get (stream q (code_at m b).line) k ≡ Some (Do t) → ((k < completed (get_or qs q at_start) → k < completed (processor s q)) × (k < completed (processor s q) → k < completed (get_or qs q at_start)) × (k < (get_or qs q at_start).place → k < (processor s q).place))) (sym ep) (fired_all (λ q x. (k t : ℕ) → slice_get (stream q (code_at m b).line) k ≡ Some (Do t) → ((k < completed x → k < completed (processor s q)) × (k < completed (processor s q) → k < completed x) × (k < x.place → k < (processor s q).place))) r.mask s.processors (bound m b fit done s i j r) member (λ q h k t e. (λ l. l, λ l. l, λ l. l)) q)
+    fire_each q = subst (λ qs. (k t : ℕ) → slice_get (stream q (code_at m b).line) k ≡ Some (Do t) → ((k < completed (get_or qs q at_start) → k < completed (processor s q)) × (k < completed (processor s q) → k < completed (get_or qs q at_start)) × (k < (get_or qs q at_start).place → k < (processor s q).place))) (sym ep) (fired_all (λ q x. (k t : ℕ) → slice_get (stream q (code_at m b).line) k ≡ Some (Do t) → ((k < completed x → k < completed (processor s q)) × (k < completed (processor s q) → k < completed x) × (k < x.place → k < (processor s q).place))) (s.clock + m.machine.delay) r.mask s.processors (bound m b fit done s i j r) member (λ q h k t e. (λ l. l, λ l. l, λ l. l)) q)
       where
-        member : (q : ℕ) → has_bit r.mask q ≡ true → (k t : ℕ) → slice_get (stream q (code_at m b).line) k ≡ Some (Do t) → ((k < completed (resumed (processor s q)) → k < completed (processor s q)) × (k < completed (processor s q) → k < completed (resumed (processor s q))) × (k < suc (processor s q).place → k < (processor s q).place))
+        member : (q : ℕ) → has_bit r.mask q ≡ true → (k t : ℕ) → slice_get (stream q (code_at m b).line) k ≡ Some (Do t) → ((k < completed (resumed (s.clock + m.machine.delay) (processor s q)) → k < completed (processor s q)) × (k < completed (processor s q) → k < completed (resumed (s.clock + m.machine.delay) (processor s q))) × (k < suc (processor s q).place → k < (processor s q).place))
         member q h k t e =
             let idle : completed (processor s q) ≡ (processor s q).place = free_completed s.clock (processor s q).work (processor s q).place (waits_parts (code_at m b) s q (r.all_wait q h)).0 in
             let ne : k ≡ (processor s q).place → ⊥ = λ z. let x : Some (Do t) ≡ Some Wait = sym e ∙ ap (slice_get (stream q (code_at m b).line)) z ∙ wait_at m b fit done s i j r q h in cc in
@@ -145,7 +146,7 @@ module _ (m : Program) (b : ℕ) (fit : IsFit m (code_at m b)) (done : ℕ → T
     fire_behind a h = record { p = h.p; k = h.k; at = h.at; lt = (fire_each h.p h.k a h.at.item).1 h.lt }
 
     fire_read : (q until t : ℕ) (operands : List ℤ) → (processor s' q).work ≡ Busy until t operands → operands ≡ read_of (tuple_at (code_at m b) t) (serial (code_at m b).tuples w t)
-    fire_read q = subst (λ qs. (until t : ℕ) (operands : List ℤ) → (get_or qs q at_start).work ≡ Busy until t operands → operands ≡ read_of (tuple_at (code_at m b) t) (serial (code_at m b).tuples w t)) (sym ep) (fired_all (λ q x. (until t : ℕ) (operands : List ℤ) → x.work ≡ Busy until t operands → operands ≡ read_of (tuple_at (code_at m b) t) (serial (code_at m b).tuples w t)) r.mask s.processors (bound m b fit done s i j r) (λ q h until t operands e. absurd (cc)) (λ q h. v.read q) q)
+    fire_read q = subst (λ qs. (until t : ℕ) (operands : List ℤ) → (get_or qs q at_start).work ≡ Busy until t operands → operands ≡ read_of (tuple_at (code_at m b) t) (serial (code_at m b).tuples w t)) (sym ep) (fired_all (λ q x. (until t : ℕ) (operands : List ℤ) → x.work ≡ Busy until t operands → operands ≡ read_of (tuple_at (code_at m b) t) (serial (code_at m b).tuples w t)) (s.clock + m.machine.delay) r.mask s.processors (bound m b fit done s i j r) (λ q h until t operands e. absurd (cc)) (λ q h. v.read q) q)
 
     pub fire_values : Values (code_at m b) w s'
     fire_values = stays (code_at m b) w s s' v ew (λ a h. record { p = h.p; k = h.k; at = h.at; lt = (fire_each h.p h.k a h.at.item).1 h.lt }) (λ a h. record { p = h.p; k = h.k; at = h.at; lt = (fire_each h.p h.k a h.at.item).0 h.lt }) fire_read (λ a c x h. v.order a c x (record { p = h.p; k = h.k; at = h.at; lt = (fire_each h.p h.k c h.at.item).2 h.lt }))

@@ -1,13 +1,15 @@
 -- The canonical run: of all runs on a unit with a timing, the one that the engine takes.
-use Rattle.std.specs.Prelude.{◌≡◌, ℕ, zero, suc, ◌≤◌, Bool, true, false, ◌&&◌, not, nat_eq, List, [], ◌∷◌, Option, Some, None, if◌then◌else◌}
+use Rattle.std.specs.Prelude.{◌≡◌, ℕ, zero, suc, ◌≤◌, Bool, true, false, ◌&&◌, not, nat_eq, List, [], ◌∷◌, Option, Some, None}
+use Rattle.std.specs.Prelude.{if◌then◌else◌}
 use Rattle.bm_base.specs.declared.spec.Interval.{Interval}
 use Rattle.bm_base.specs.Memory.{Content}
 use Rattle.tuple_ir.specs.declared.tuple.Tuple.{Tuple}
 use Rattle.line_model.specs.declared.line.StreamItem.{StreamItem}
 use Rattle.line_model.specs.declared.line.StreamItem.TheVariants.{Do, Wait}
 use Rattle.line_model.specs.Streams.{counted}
-use Rattle.timing_script.specs.Duration.{IsWithin}
-use Rattle.unit_law.specs.State.{Code, Program, Mode, In, Entering, Ended, State, code_at, interval_of, processor, is_free, is_due, next_item}
+use Rattle.timing_law.specs.Duration.{IsWithin}
+use Rattle.unit_law.specs.State.{Code, Program, Mode, In, Entering, Ended, State, code_at, interval_of, processor, is_free, is_due}
+use Rattle.unit_law.specs.State.{next_item}
 use Rattle.unit_law.specs.Units.{Choice, first_from}
 use Rattle.unit_law.specs.Steps.{Action, Finish, Fire, Start, Branch, Advance, Enter, least_tick, tuple_at, state_after}
 use Rattle.unit_law.specs.OnUnit.{answer_at}
@@ -49,7 +51,7 @@ is_do (Some (Do t)) = true
 is_do (Some Wait) = false
 is_do None = false
 
--- processor p is idle, and its next item is a tuple
+-- processor p is free, and its next item is a tuple
 abbrev pub can_start : Code → State → ℕ → Bool
 can_start code s p = is_free s.clock (processor s p).work && is_do (next_item code s p)
 
@@ -65,28 +67,32 @@ time_for durations m code past p None = 0
 
 -- the Start of the lowest processor
 abbrev pub lowest_start : Durations → Program → Code → List Action → State → Option Action
-lowest_start durations m code past s = numbered (λ p. Start p (time_for durations m code past p (next_item code s p))) (first_from (can_start code s) 0 m.machine.processors)
+lowest_start durations m code past s = numbered (λ p. Start p (time_for durations m code past p (next_item code s p)))
+    (first_from (can_start code s) 0 m.machine.processors)
 
 abbrev pub is_none : {X : Type 0} → Option X → Bool
 is_none None = true
 is_none (Some x) = false
 
--- processor p is idle at its stream's end
+-- processor p is free at its stream's end
 abbrev pub is_at_end : Code → State → ℕ → Bool
 is_at_end code s p = is_free s.clock (processor s p).work && is_none (next_item code s p)
 
--- the Branch, where all processors are idle at their streams' ends
+-- the Branch, where all processors are free at their streams' ends
 abbrev pub block_branch : Program → Code → State → Option Action
 block_branch m code s = if is_none (first_from (λ p. not (is_at_end code s p)) 0 m.machine.processors) then Some Branch else None
 
--- the Advance, where a processor is busy
+-- the Advance, where a processor is busy or held past the clock
 abbrev pub block_advance : State → Option Action
 block_advance s = if is_none (least_tick s.clock s.processors) then None else Some Advance
 
 -- in block b after a run: a due Finish of the lowest processor; else the mask that the unit picks; else the Start of the lowest
 -- processor; else the Branch; else the Advance
 abbrev pub next_in : Choice → Durations → Program → ℕ → List Action → State → Option Action
-next_in choice durations m b past s = or_else (due_finish m s) (or_else (numbered Fire (answer_at choice m b s)) (or_else (lowest_start durations m (code_at m b) past s) (or_else (block_branch m (code_at m b) s) (block_advance s))))
+next_in choice durations m b past s = or_else (due_finish m s)
+    (or_else (numbered Fire (answer_at choice m b s))
+    (or_else (lowest_start durations m (code_at m b) past s)
+    (or_else (block_branch m (code_at m b) s) (block_advance s))))
 
 -- the action that the canonical run takes next, none at its end
 abbrev pub next_to : Choice → Durations → Program → Mode → List Action → State → Option Action
@@ -104,9 +110,11 @@ and_then (Some a) past = a ∷ past
 -- the canonical run's first n actions, the latest first; all of them where it has fewer
 abbrev pub canonical : Choice → Durations → Program → List Content → ℕ → List Action
 canonical choice durations m memory zero = []
-canonical choice durations m memory (suc n) = let past = canonical choice durations m memory n in and_then (next_action choice durations m memory past) past
+canonical choice durations m memory (suc n) = let past = canonical choice durations m memory n
+    in and_then (next_action choice durations m memory past) past
 
 -- these actions are a beginning of the canonical run
 abbrev pub IsCanonical : Choice → Durations → Program → List Content → List Action → Type 0
 IsCanonical choice durations m memory [] = Unit {0}
-IsCanonical choice durations m memory (a ∷ past) = IsCanonical choice durations m memory past × (next_action choice durations m memory past ≡ Some a)
+IsCanonical choice durations m memory (a ∷ past) = IsCanonical choice durations m memory past
+    × (next_action choice durations m memory past ≡ Some a)

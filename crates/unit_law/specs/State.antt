@@ -1,5 +1,6 @@
 -- What a barrier machine runs, and the states that it can be in.
-use Rattle.std.specs.Prelude.{ℕ, zero, suc, Bool, true, false, ◌&&◌, nat_eq, nat_lt, List, [], ◌∷◌, length, map, get_or, replicate, Option, Some, None, slice_get, ℤ}
+use Rattle.std.specs.Prelude.{ℕ, zero, suc, Bool, true, false, ◌&&◌, nat_eq, nat_lt, nat_le, List, [], ◌∷◌, length, map, get_or}
+use Rattle.std.specs.Prelude.{replicate, Option, Some, None, slice_get, ℤ}
 use Rattle.bm_base.specs.declared.spec.Interval.{Interval}
 use Rattle.bm_base.specs.Machine.{Machine}
 use Rattle.bm_base.specs.Spec.{time_of}
@@ -17,7 +18,7 @@ use Rattle.line_model.specs.declared.line.StreamItem.{StreamItem}
 use Rattle.line_model.specs.declared.line.StreamItem.TheVariants.{Do, Wait}
 use Rattle.line_model.specs.Streams.{stream, masks}
 
--- what a machine runs: its processors and times, the names, and for each block its tuples, its next and its line
+-- what a machine runs: its processors, delay and times, the names, and for each block its tuples, its next and its line
 pub record Program : Type 0 where
   pub machine : Machine
   pub names : List Entry
@@ -44,10 +45,12 @@ pub data Mode : Type 0 where
   Entering : (block : ℕ) → Mode
   Ended : Mode
 
--- what a processor does: nothing, or a tuple until a tick, with the operands that it read when it started
+-- what a processor does: nothing, or a tuple until a tick, with the operands that it read when it started, or it is held until a
+-- tick since a mask has fired that it is a member of
 pub data Work : Type 0 where
   Idle : Work
   Busy : (until tuple : ℕ) (operands : List ℤ) → Work
+  Held : (until : ℕ) → Work
 
 -- a processor: how many items of its stream it has taken up, and what it does
 pub record Processor : Type 0 where
@@ -83,15 +86,17 @@ start m memory = entered m 0 0 (at_first memory)
 abbrev pub processor : State → ℕ → Processor
 processor s p = get_or s.processors p at_start
 
--- the processor can go on at this clock
+-- the processor can go on at this clock: it is idle, or its hold is over
 abbrev pub is_free : ℕ → Work → Bool
 is_free clock Idle = true
 is_free clock (Busy until t operands) = false
+is_free clock (Held until) = nat_le until clock
 
 -- the processor's Finish is due at this clock
 abbrev pub is_due : ℕ → Work → Bool
 is_due clock Idle = false
 is_due clock (Busy until t operands) = nat_eq until clock
+is_due clock (Held until) = false
 
 -- the processor's next item, where one is left
 abbrev pub next_item : Code → State → ℕ → Option StreamItem

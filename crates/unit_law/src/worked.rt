@@ -7,9 +7,11 @@ ghost use Rattle.unit_law.specs.State.{Program, Ended};
 ghost use Rattle.unit_law.specs.Units.{static_choice, dynamic_choice};
 ghost use Rattle.unit_law.specs.Steps.{state_after, IsRun};
 ghost use Rattle.unit_law.specs.Canonical.{canonical};
+ghost use Rattle.unit_law.specs.Events.{events_of};
 ghost use Rattle.unit_law.specs.OnUnit.{IsRunOn, IsLawfulChoice};
 ghost use Rattle.unit_law.specs.Determinate.{IsDeterminate};
-ghost use Rattle.unit_law.specs.Worked.{worked_line, worked, worked_memory, longest, dynamic_run, static_run, late_choice, late_run};
+ghost use Rattle.unit_law.specs.Worked.{worked_line, worked, worked_memory, longest, dynamic_run, static_run, delayed, delayed_run};
+ghost use Rattle.unit_law.specs.Worked.{delayed_events, late_choice, late_run};
 
 /// What the worked line gives each processor, and its queue.
 pub fn worked_streams()
@@ -33,6 +35,21 @@ pub fn worked_runs()
     ensures static_end { (state_after worked worked_memory (reverse static_run)).mode ≡ Ended }
     ensures static_output { (state_after worked worked_memory (reverse static_run)).world.output ≡ pos 1 ∷ [] }
     ensures static_memory { (state_after worked worked_memory (reverse static_run)).world.memory ≡ Word (pos 0) ∷ [] }
+{}
+
+/// The canonical run of the worked program on the dynamic unit where a mask's members resume two
+/// ticks after it fires: it ends at tick 7. On the static unit it ends at tick 10.
+pub fn delayed_runs()
+    ensures dynamic_steps { reverse (canonical dynamic_choice longest delayed worked_memory 20) ≡ delayed_run }
+    ensures dynamic_clock { (state_after delayed worked_memory (reverse delayed_run)).clock ≡ 7 }
+    ensures dynamic_end { (state_after delayed worked_memory (reverse delayed_run)).mode ≡ Ended }
+    ensures static_clock { (state_after delayed worked_memory (canonical static_choice longest delayed worked_memory 22)).clock ≡ 10 }
+    ensures static_end { (state_after delayed worked_memory (canonical static_choice longest delayed worked_memory 22)).mode ≡ Ended }
+{}
+
+/// What that run shows on the dynamic unit.
+pub fn worked_events()
+    ensures { events_of delayed worked_memory (reverse delayed_run) ≡ delayed_events }
 {}
 
 /// A lawful run of the worked program that neither kind of unit takes: a third unit picks none while

@@ -8,6 +8,7 @@ returns-in-Ok-clause-comes g c = record {
   names = c.args.name.now ∷ [];
   reading = (c.args.most, refl, c.in-Ok.ensures.content, c.in-Ok.ensures.short, tt);
   ends = (c.in-Ok.bytes.items, refl, λ rest. refl, c.in-Ok.ensures.asked);
+  held = c.in-Ok.ensures.held;
   later = c.in-Ok.ensures.cause.later;
 }
 
@@ -19,6 +20,7 @@ returns-in-Err-Failed-clause-comes g c =
       names = [];
       reading = tt;
       ends = ((c.args.most, refl), h.asked, h.cause.rose refl);
+      held = h.held;
       later = h.cause.later;
     }
 
@@ -30,5 +32,6 @@ returns-in-Err-Memory-clause-comes g c =
       names = [];
       reading = tt;
       ends = elim h.asked [ inl a ↦ inr (c.args.name.now, c.args.most, refl, a) | inr b ↦ inl (b ∙ sym (asking-nothing _)) ];
+      held = h.held;
       later = h.cause.later;
     }

@@ -6,7 +6,6 @@ use Rattle.bm_base.specs.Memory.{element}
 use Rattle.bm_report.specs.Held.{elements_at}
 use Rattle.bm_report.proofs.Elements.{elements_next}
 use Rattle.bm_report.proofs.memory.elements.Goals as goal
-use Rattle.bm_report.proofs.memory.elements.Goals.{then-first-len, else-first-len}
 
 regroup : (p a b c : List ℕ) → p ++ a ++ b ++ c ≡ p ++ (a ++ b ++ c)
 regroup p a b c = append_assoc (p ++ a) b c ∙ append_assoc p a (b ++ c) ∙ ap (λ x. p ++ x) (sym (append_assoc a b c))
@@ -14,8 +13,8 @@ regroup p a b c = append_assoc (p ++ a) b c ∙ append_assoc p a (b ++ c) ∙ ap
 pub loop-index-preserved : goal.loop-index-preserved
 loop-index-preserved c =
     let i : ℕ = c.loop-index.index in
-    let end : ℕ = c.if-first-len.end in
-    let b : end ≤ c.args.len = elim c.if-first-len.branch [ then-first-len w ↦ omega arith | else-first-len w ↦ omega arith ] in
+    let end : ℕ = c.min-index-end.result in
+    let b : end ≤ c.args.len = omega (arith, c.min-index-end.ensures) in
     let n : ℕ = end - (i + 1) in
     let t : i < end = c.loop-index-test.true in
     let e : end - i ≡ suc n = omega arith in

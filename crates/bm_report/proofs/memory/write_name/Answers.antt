@@ -1,7 +1,7 @@
 use Rattle.std.proofs.Common.{◌≡◌, refl, sym, ap, subst, ◌∙◌, [], ◌∷◌, Some}
 use Rattle.std.specs.Prelude.{slice_get}
 use Rattle.bm_base.specs.declared.names.Kind.TheVariants.{Var, Array}
-use Rattle.tuple_ir.specs.Memories.{IsOfKind}
+use Rattle.bm_base.specs.Memories.{IsOfKind}
 use Rattle.bm_report.specs.Held.{IsArrayOf, lines_at, variable_at}
 use Rattle.bm_report.proofs.Names.{named, a_word, some_words}
 use Rattle.bm_report.proofs.Memories.{Sent-same}

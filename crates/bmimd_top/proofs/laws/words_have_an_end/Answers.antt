@@ -9,11 +9,15 @@ returns c words held =
       source = c.inputs_settle.ensures.source;
       machine = c.inputs_settle.ensures.machine;
       right = c.inputs_are_right.ensures.source;
+      nodes = c.inputs_are_right.ensures.nodes;
       lawful = c.inputs_are_right.ensures.machine;
-      image = c.straight_programs_have_images.ensures.image;
-      fit = c.straight_programs_have_images.ensures.fit;
-      stand = c.straight_programs_have_images.ensures.stand;
-      times = c.straight_programs_have_images.ensures.times;
+      image = c.programs_have_images.ensures.image;
+      summary = c.programs_have_summaries.ensures.some;
+      fit = c.programs_have_images.ensures.fit;
+      stand = c.programs_have_images.ensures.stand;
+      times = c.programs_have_images.ensures.times;
+      loaded = c.images_settle.ensures;
+      sound = c.loaded_images_are_images.ensures;
       text = c.runs_have_some_text.ensures;
     })
     held

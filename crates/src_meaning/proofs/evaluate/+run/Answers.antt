@@ -1,11 +1,13 @@
 use Rattle.std.proofs.Common.{rules, ◌≡◌, ◌∙◌, ◌+◌, ◌-◌, suc, ap, refl, drop, arith, Ok, Err, w64, to_z, of_z, FitsSigned}
 use Rattle.std.proofs.lemmas.Int.{to_z-of_z}
+use Rattle.std.proofs.Math.ListN.{drop_of_length-le}
 use Rattle.src_names.specs.declared.resolved.RStmt.{the_lemmas}
+use Rattle.src_names.proofs.Induct.{drop_first}
 use Rattle.src_meaning.specs.declared.evaluate.End.TheVariants.{Done, More}
 use Rattle.src_meaning.specs.Meaning.{statement, statements}
 use Rattle.src_meaning.specs.Evaluates.{seen}
 use Rattle.src_meaning.proofs.Suits.{suits-is, suits-print, suits-if, suits-while, suits-while-kept, suits-rest, suits-body-is}
-use Rattle.src_meaning.proofs.Runs.{first_done, first_more, first_fault, all_done, drop_first, drop_past, assigned, assigned_element, printed, refused, chosen_others, chosen_ones, loop_begins, loop_stopped, loop_again, loop_more, loop_fault, loop_done, as_body, turns_fall, zero_word, some_word}
+use Rattle.src_meaning.proofs.Runs.{first_done, first_more, first_fault, all_done, assigned, assigned_element, printed, refused, chosen_others, chosen_ones, loop_begins, loop_stopped, loop_again, loop_more, loop_fault, loop_done, as_body, turns_fall, zero_word, some_word}
 use Rattle.src_meaning.proofs.evaluate.+run.Goals as goal
 
 pub run-returns-in-Assign-clause-evaluates : goal.run-returns-in-Assign-clause-evaluates
@@ -185,4 +187,4 @@ pub run_all-returns-clause-evaluates : goal.run_all-returns-clause-evaluates
 run_all-returns-clause-evaluates g t c =
     let start = seen (g.V.Values.held c.args.out.now) (g.V.Values.faults c.args.out.now) c.args.turns.now c.args.store.now in
     all_done g.V.Values.with_value g.V.Values.leaves g.V.Values.is_sure (g.V.Values.held c.loop-stmt.out) (g.V.Values.faults c.loop-stmt.out) c.loop-stmt.turns c.loop-stmt.store start
-    (statements c.args.body.now c.args.turns.now c.args.store.now) (drop c.loop-stmt.stmt-index c.args.body.now) (drop_past c.args.body.now c.loop-stmt.stmt-index c.loop-stmt-test.false) c.loop-stmt.invariant.rest
+    (statements c.args.body.now c.args.turns.now c.args.store.now) (drop c.loop-stmt.stmt-index c.args.body.now) (drop_of_length-le c.args.body.now c.loop-stmt-test.false) c.loop-stmt.invariant.rest

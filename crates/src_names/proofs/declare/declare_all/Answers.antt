@@ -1,4 +1,5 @@
-use Rattle.std.proofs.Common.{◌≡◌, length, take, length-take, arith}
+use Rattle.std.proofs.Common.{◌≡◌, Err, length, take, length-take, arith}
+use Rattle.bm_base.specs.Passed.{err_is}
 use Rattle.src_names.specs.Declarations as n
 use Rattle.src_names.proofs.Declaring.{length_declared, first_fault, one_more, nothing}
 use Rattle.src_names.proofs.declare.declare_all.Goals as goal
@@ -25,12 +26,13 @@ declare-requires-clause-declared c =
     let index : c.len.result ≡ c.loop-decl.decl-index = omega arith in
     rw index c.loop-decl.invariant.declared
 
-pub returns-in-Err-clause-err : goal.returns-in-Err-clause-err
-returns-in-Err-clause-err c = λ x.
+pub returns-in_err-declare-clause-err : goal.returns-in_err-declare-clause-err
+returns-in_err-declare-clause-err c =
+    let told : c.from_residual.result ≡ Err c.in_err-declare.field-0.0 = err_is c.from_residual.result c.in_err-declare.field-0.0 c.from_residual.ensures.0 c.from_residual.ensures.1 in
     let long : length (take c.loop-decl.decl-index c.args.decls.now) ≡ length c.loop-decl.names = length_declared c.loop-decl.invariant.declared in
     let same = rw length-take at long in
     let index : c.len.result ≡ c.loop-decl.decl-index = omega arith in
-    first_fault c.args.decls.now c.loop-decl.decl-index c.decl-item.result c.loop-decl.names c.in-Err.fault c.loop-decl-test.true c.decl-item.is c.loop-decl.invariant.declared c.loop-decl.invariant.range (rw index at (c.in-Err.ensures.err x))
+    rw told (λ x. first_fault c.args.decls.now c.loop-decl.decl-index c.decl-item.result c.loop-decl.names c.in_err-declare.field-0.0 c.loop-decl-test.true c.decl-item.is c.loop-decl.invariant.declared c.loop-decl.invariant.range (rw index at (c.in_err-declare.ensures.err x)))
 
 pub loop-decl-preserved : goal.loop-decl-preserved
 loop-decl-preserved c =
@@ -38,6 +40,6 @@ loop-decl-preserved c =
     let same = rw length-take at long in
     let index : c.len.result ≡ c.loop-decl.decl-index = omega arith in
     record {
-      declared = one_more c.args.decls.now c.loop-decl.decl-index c.decl-item.result c.declare.new.names c.loop-decl-test.true c.decl-item.is (rw index at c.in-Ok.ensures.ok);
-      range = c.in-Ok.ensures.range;
+      declared = one_more c.args.decls.now c.loop-decl.decl-index c.decl-item.result c.declare.new.names c.loop-decl-test.true c.decl-item.is (rw index at c.in_ok-declare.ensures.ok);
+      range = c.in_ok-declare.ensures.range;
     }

@@ -1,5 +1,6 @@
 use Rattle.std.proofs.Common.{take}
-use Rattle.src_names.specs.Declarations.{AreDeclared, AreInRange}
+use Rattle.src_names.specs.Declarations.{AreDeclared}
+use Rattle.bm_base.specs.Names.{AreInRange}
 use Rattle.src_names.proofs.declare.declare_all.Given as goal
 
 abbrev pub invariant-loop-decl : goal.invariant-loop-decl

@@ -1,4 +1,4 @@
-use Rattle.std.proofs.Common.{◌≡◌, ◌∙◌, [], sym, ap, subst, List, ℕ, ◌∷◌, ◌++◌, ◌+◌, suc, length, ◌<◌, take, drop, get_or, Some, drop-cons, arith}
+use Rattle.std.proofs.Common.{◌≡◌, ◌∙◌, [], sym, ap, subst, List, ℕ, ◌∷◌, ◌++◌, ◌+◌, suc, length, ◌<◌, take, drop, get_or, Some, Err, drop-cons, arith}
 use Rattle.std.proofs.lemmas.List.{take_more, take-append-drop, take_all}
 use Rattle.src_lexer.specs.declared.token.Token.{Token}
 use Rattle.src_lexer.specs.declared.token.TokenKind.TheVariants.{Name}
@@ -9,6 +9,7 @@ use Rattle.src_parser.specs.Machine.{run, start}
 use Rattle.src_parser.specs.Turn.{Goes}
 use Rattle.src_parser.proofs.Tallies.{IsTally}
 use Rattle.src_parser.proofs.Whole_runs.{Read, read_none, read_more, read_stops, low_depth, low_signs, low_nodes}
+use Rattle.bm_base.specs.Passed.{err_is}
 use Rattle.src_parser.proofs.program.read.Goals as goal
 
 abbrev Known : List ℕ → List Token → State → Tally → Type 0
@@ -31,34 +32,29 @@ more {src} ts i {next = next} {counted = counted} low h g =
     let e : take (i + 1) ts ≡ take i ts ++ get_or ts i no_token ∷ [] = take_more ts i no_token low in
     subst P (sym e) (r.runs, r.counts, r.limits)
 
--- src/program.rt:83:5
 pub loop-token-init : goal.loop-token-init
 loop-token-init c = let r = read_none c.args.src.now c.nothing-counted.result c.args.state.now c.nothing-counted.ensures c.requires.start in (r.runs, r.counts, r.limits)
 
--- src/program.rt:84:15
 pub turn-requires-clause-depth : goal.turn-requires-clause-depth
 turn-requires-clause-depth c = low_depth (known c.loop-token.invariant)
 
--- src/program.rt:84:15
 pub turn-requires-clause-signs : goal.turn-requires-clause-signs
 turn-requires-clause-signs c = low_signs (known c.loop-token.invariant)
 
--- src/program.rt:84:15
 pub turn-requires-clause-nodes : goal.turn-requires-clause-nodes
 turn-requires-clause-nodes c = low_nodes (known c.loop-token.invariant)
 
--- src/program.rt:86:27
-pub returns-in-Err-clause-fault : goal.returns-in-Err-clause-fault
-returns-in-Err-clause-fault c =
+pub returns-in_err-turn-clause-fault : goal.returns-in_err-turn-clause-fault
+returns-in_err-turn-clause-fault c =
     let ts = c.args.tokens.now in
     let i = c.loop-token.token-index in
-    read_stops (known c.loop-token.invariant) ts (get_or ts i no_token) (drop (suc i) ts) c.in-Err.fault (split ts i c.loop-token-test.true) c.in-Err.ensures.stops
+    let e = c.in_err-turn.field-0.0 in
+    let told : c.from_residual.result ≡ Err e = err_is c.from_residual.result e c.from_residual.ensures.0 c.from_residual.ensures.1 in
+    rw told (read_stops (known c.loop-token.invariant) ts (get_or ts i no_token) (drop (suc i) ts) e (split ts i c.loop-token-test.true) c.in_err-turn.ensures.stops)
 
--- src/program.rt:83:5
 pub loop-token-preserved : goal.loop-token-preserved
-loop-token-preserved c = more c.args.tokens.now c.loop-token.token-index c.loop-token-test.true c.loop-token.invariant c.in-Ok.ensures.goes
+loop-token-preserved c = more c.args.tokens.now c.loop-token.token-index c.loop-token-test.true c.loop-token.invariant c.in_ok-turn.ensures.goes
 
--- src/program.rt:75:1
 pub returns-clause-ok : goal.returns-clause-ok
 returns-clause-ok c =
     let e : take c.loop-token.token-index c.args.tokens.now ≡ c.args.tokens.now = take_all c.loop-token.token-index c.args.tokens.now (omega (arith, c.loop-token-test.false)) in

@@ -23,14 +23,14 @@ too_many src st next t more token s m d n = (
 )
 
 -- src/program.rt:63:9
-pub returns-then-counted-gt64-clause-stops : goal.returns-then-counted-gt64-clause-stops
-returns-then-counted-gt64-clause-stops c =
+pub returns-then-counted-gt-MOST_DEPTH-clause-stops : goal.returns-then-counted-gt-MOST_DEPTH-clause-stops
+returns-then-counted-gt-MOST_DEPTH-clause-stops c =
     too_deep c.args.src.now c.args.state.now c.step.new.state c.args.counted.now c.take.new.tally c.args.token
-    (c.in_ok-step.ensures ∙ ap (λ (b : Bool). cond b (Some c.step.new.state) None) c.if-not-branch.false) c.in_ok-take.ensures (omega (arith, c.if-counted-gt64.true))
+    (c.in_ok-step.ensures ∙ ap (λ (b : Bool). cond b (Some c.step.new.state) None) c.if-not-branch.false) c.in_ok-take.ensures (omega (arith, c.if-counted-gt-MOST_DEPTH.true))
 
 -- src/program.rt:66:9
-pub returns-then-counted-gt120-clause-stops : goal.returns-then-counted-gt120-clause-stops
-returns-then-counted-gt120-clause-stops c =
+pub returns-then-counted-gt-MOST_NODES-clause-stops : goal.returns-then-counted-gt-MOST_NODES-clause-stops
+returns-then-counted-gt-MOST_NODES-clause-stops c =
     too_many c.args.src.now c.args.state.now c.step.new.state c.args.counted.now c.take.new.tally c.args.token
     (c.in_ok-step.ensures ∙ ap (λ (b : Bool). cond b (Some c.step.new.state) None) c.if-not-branch.false) c.in_ok-take.ensures
-    (omega (arith, c.if-counted-gt64.false)) (omega (arith, c.if-counted-gt120.true))
+    (omega (arith, c.if-counted-gt-MOST_DEPTH.false)) (omega (arith, c.if-counted-gt-MOST_NODES.true))

@@ -1,6 +1,6 @@
 use Rattle.std.proofs.Common.{rules, ◌+◌, drop, refl, ap, arith}
 use Rattle.src_names.specs.declared.resolved.RStmt.{the_lemmas}
-use Rattle.src_meaning.proofs.Runs.{drop_first}
+use Rattle.src_names.proofs.Induct.{drop_first}
 use Rattle.tuple_ir.specs.declared.block.Next.TheVariants.{Halt}
 use Rattle.tuple_lower.specs.Blocks.{lower_stmt, lower_body}
 use Rattle.tuple_lower.specs.Drafted.{continued, closed_choice, closed_loop}

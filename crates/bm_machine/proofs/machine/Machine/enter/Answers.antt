@@ -1,27 +1,29 @@
-use Rattle.std.proofs.Common.{◌≡◌, ℕ, ◌+◌, ◌<◌, false, length, replicate, map, refl, sym, ap, ◌∙◌, subst, arith}
+use Rattle.std.proofs.Common.{◌≡◌, ℕ, ◌+◌, ◌<◌, false, length, None, replicate, map, refl, sym, ap, ◌∙◌, subst, arith}
 use Rattle.std.proofs.lemmas.List.{length-map}
 use Rattle.unit_law.specs.State.{State, In, Entering, at_start, code_at, entered, waits}
 use Rattle.unit_law.specs.Steps.{Branch, Enter, May, after, target}
 use Rattle.bm_machine.specs.declared.machine.Machine.TheInside.{Inside}
-use Rattle.bm_machine.specs.Core.{IsCore}
-use Rattle.bm_machine.specs.Shown.{mode_of, processor_of, standing}
+use Rattle.unit_law.specs.Sound.{IsSound}
+use Rattle.bm_machine.specs.Shown.{mode_of, processor_of, standing_at, dues_of}
 use Rattle.bm_machine.proofs.Begins.{resting, rests}
 use Rattle.bm_machine.proofs.Finished.{state_is}
+use Rattle.bm_machine.proofs.Dues.{dues_long, dues_rest}
+use Rattle.bm_machine.proofs.Running.{starts_standing}
 use Rattle.bm_machine.proofs.WithinBlock.{waits_standing}
 use Rattle.bm_machine.proofs.Entering.{Leaving, entered_is, entered_unfired, entered_kept, entered_left}
 use Rattle.bm_machine.proofs.machine.Machine.enter.Given as given
 use Rattle.bm_machine.proofs.machine.Machine.enter.Goals as goal
-use Rattle.bm_machine.proofs.machine.Machine.enter.Goals.{After-deref, After-tell}
+use Rattle.bm_machine.proofs.machine.Machine.enter.Goals.{After-deref, After-see_all}
 
 -- the state of a machine by its fields
 abbrev state_of : (g : given.Over) → Inside g.row.U.Denot g.row.T.Denot → State
 state_of g i = record { clock = i.clock; mode = mode_of i.stage; processors = map processor_of i.actors.items; fired = g.U.BarrierUnit.fired i.unit; world = record { cells = i.cells.items; memory = i.store; output = i.output.items } }
 
 -- what is kept and required
-facts : (g : given.Over) (c : After-deref g) → Leaving c.self.inside.core.now (state_of g c.self.inside) c.self.inside.counts.items c.self.inside.told (g.U.BarrierUnit.capacity c.self.inside.unit) (g.U.BarrierUnit.queue c.self.inside.unit) (g.U.BarrierUnit.waiting c.self.inside.unit) c.args.block c.args.next
+facts : (g : given.Over) (c : After-deref g) → Leaving c.self.inside.image.now (state_of g c.self.inside) c.self.inside.counts.items c.self.inside.told (g.U.BarrierUnit.capacity c.self.inside.unit) (g.U.BarrierUnit.queue c.self.inside.unit) (g.U.BarrierUnit.waiting c.self.inside.unit) c.args.block c.args.next
 facts g c = record {
-  core = subst (λ v. IsCore v.program) (sym c.self.view_is) c.facts.ensures.stands.core;
-  kept = c.self.invariant;
+  sound = subst (λ v. IsSound v.program) (sym c.self.view_is) c.facts.ensures.stands.sound;
+  kept = c.self.invariant.kept;
   inside = subst (λ v. v.state.mode ≡ In c.args.block) (sym c.self.view_is) c.requires.within;
   may = subst (λ v. May v.program v.state Branch) (sym c.self.view_is) c.requires.may;
   leads = subst (λ v. target (code_at v.program c.args.block).next v.state.world ≡ Entering c.args.next) (sym c.self.view_is) c.requires.leads;
@@ -29,35 +31,42 @@ facts g c = record {
 }
 
 -- all processors rest
-rest_all : (g : given.Over) (c : After-deref g) → map processor_of c.fill.new.self.items ≡ replicate c.self.inside.core.now.machine.processors at_start
+rest_all : (g : given.Over) (c : After-deref g) → map processor_of c.fill.new.self.items ≡ replicate c.self.inside.image.now.machine.processors at_start
 rest_all g c =
     let long = subst (λ v. length v.state.processors ≡ v.program.machine.processors) (sym c.self.view_is) c.facts.ensures.stands.processors in
-    let n : c.self.inside.actors.len ≡ c.self.inside.core.now.machine.processors = omega (arith, c.self.inside.actors.ok.0, length-map c.self.inside.actors.items processor_of, long) in
-    rests c.self.inside.core.now.machine.processors c.fill.new.self.items (c.fill.ensures.items (λ y e. e) ∙ ap (λ k. replicate k resting) n)
+    let n : c.self.inside.actors.len ≡ c.self.inside.image.now.machine.processors = omega (arith, c.self.inside.actors.ok.0, length-map c.self.inside.actors.items processor_of, long) in
+    rests c.self.inside.image.now.machine.processors c.fill.new.self.items (c.fill.ensures.items (λ y e. e) ∙ ap (λ k. replicate k resting) n)
+
+agenda_long : (g : given.Over) (c : After-deref g) → length c.self.inside.agenda ≡ c.self.inside.image.now.machine.processors
+agenda_long g c = ap length c.self.invariant.agenda_is ∙ dues_long c.self.inside.clock (map processor_of c.self.inside.actors.items) ∙ subst (λ v. length v.state.processors ≡ v.program.machine.processors) (sym c.self.view_is) c.facts.ensures.stands.processors
 
 abbrev then : (g : given.Over) → After-deref g → State
-then g c = entered c.self.inside.core.now c.args.next (c.self.inside.clock + 1) (state_of g c.self.inside).world
+then g c = entered c.self.inside.image.now c.args.next (c.self.inside.clock + 1) (state_of g c.self.inside).world
 
-wait_then : (g : given.Over) (c : After-deref g) → (p : ℕ) → waits (code_at c.self.inside.core.now c.args.next) (standing c.deref.result.now) p ≡ waits (code_at c.self.inside.core.now c.args.next) (then g c) p
-wait_then g c = waits_standing (code_at c.self.inside.core.now c.args.next) (then g c) c.deref.result.now (sym (ap (map processor_of) c.deref.ensures.value ∙ rest_all g c))
+wait_then : (g : given.Over) (c : After-deref g) → (p : ℕ) → waits (code_at c.self.inside.image.now c.args.next) (standing_at (c.self.inside.clock + 1) c.deref.result.now) p ≡ waits (code_at c.self.inside.image.now c.args.next) (then g c) p
+wait_then g c = waits_standing (code_at c.self.inside.image.now c.args.next) (then g c) c.deref.result.now (sym (ap (map processor_of) c.deref.ensures.value ∙ rest_all g c))
 
-pub tell-requires-clause-unfired : goal.tell-requires-clause-unfired
-tell-requires-clause-unfired g c = λ p w. rw (c.load.ensures.masks, c.load.ensures.fired, c.masks.ensures) (entered_unfired (facts g c) p (sym (wait_then g c p) ∙ w))
+pub see_all-requires-clause-unfired : goal.see_all-requires-clause-unfired
+see_all-requires-clause-unfired g c = λ p w. rw (c.load.ensures.masks, c.load.ensures.fired, c.masks.ensures) (entered_unfired (facts g c) p (sym (wait_then g c p) ∙ w))
 
 -- the machine's state after it
-abbrev new_state : (g : given.Over) → After-tell g → State
-new_state g c = record { clock = c.self.inside.clock + 1; mode = In c.args.next; processors = map processor_of c.fill.new.self.items; fired = g.U.BarrierUnit.fired c.tell.new.unit; world = record { cells = c.self.inside.cells.items; memory = c.self.inside.store; output = c.self.inside.output.items } }
+abbrev new_state : (g : given.Over) → After-see_all g → State
+new_state g c = record { clock = c.self.inside.clock + 1; mode = In c.args.next; processors = map processor_of c.fill.new.self.items; fired = g.U.BarrierUnit.fired c.see_all.new.unit; world = record { cells = c.self.inside.cells.items; memory = c.self.inside.store; output = c.self.inside.output.items } }
 
-abbrev before : (g : given.Over) → After-tell g → After-deref g
+abbrev before : (g : given.Over) → After-see_all g → After-deref g
 before g c = (goal.at.invariant_of-self g c).After-deref
 
-effect : (g : given.Over) (c : After-tell g) → new_state g c ≡ then g (before g c)
-effect g c = state_is (new_state g c) (then g (before g c)) refl refl (rest_all g (before g c)) (c.tell.ensures.fired ∙ c.load.ensures.fired ∙ ap (map (λ _. false)) c.masks.ensures) refl
+effect : (g : given.Over) (c : After-see_all g) → new_state g c ≡ then g (before g c)
+effect g c = state_is (new_state g c) (then g (before g c)) refl refl (rest_all g (before g c)) (c.see_all.ensures.fired ∙ c.load.ensures.fired ∙ ap (map (λ _. false)) c.masks.ensures) refl
 
 pub invariant_of-self : goal.invariant_of-self
 invariant_of-self g c =
     let d = before g c in
-    entered_kept (facts g d) (new_state g c) c.tell.new.told (g.U.BarrierUnit.capacity c.tell.new.unit) (g.U.BarrierUnit.queue c.tell.new.unit) (g.U.BarrierUnit.waiting c.tell.new.unit) (effect g c) (c.tell.ensures.capacity ∙ c.load.ensures.capacity) (c.tell.ensures.masks ∙ c.load.ensures.masks ∙ c.masks.ensures) c.tell.ensures.told (λ p. c.tell.ensures.bits p ∙ wait_then g d p)
+    record {
+      kept = entered_kept (facts g d) (new_state g c) c.see_all.new.told (g.U.BarrierUnit.capacity c.see_all.new.unit) (g.U.BarrierUnit.queue c.see_all.new.unit) (g.U.BarrierUnit.waiting c.see_all.new.unit) (effect g c) (c.see_all.ensures.capacity ∙ c.load.ensures.capacity) (c.see_all.ensures.masks ∙ c.load.ensures.masks ∙ c.masks.ensures) c.see_all.ensures.told (λ p. c.see_all.ensures.bits p ∙ wait_then g d p);
+      agenda_is = c.clear.ensures ∙ ap (λ n. replicate n None) (agenda_long g d) ∙ sym (dues_rest (c.self.inside.clock + 1) c.self.inside.image.now.machine.processors) ∙ sym (ap (dues_of (c.self.inside.clock + 1)) (rest_all g d));
+      able_is = λ p. c.see_all.ensures.able p ∙ starts_standing (code_at c.self.inside.image.now c.args.next) (new_state g c) c.deref.result.now (sym (ap (map processor_of) c.deref.ensures.value)) p;
+    }
 
 pub returns-clause-effect : goal.returns-clause-effect
 returns-clause-effect g c = subst (λ v. new_state g c ≡ after v.program (after v.program v.state Branch) Enter) c.self.view_is (effect g c ∙ sym (entered_is (facts g (before g c))))

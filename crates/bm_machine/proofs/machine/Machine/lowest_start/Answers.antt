@@ -1,13 +1,20 @@
-use Rattle.std.proofs.Common.{◌≡◌, length, map, sym, ap, subst, ◌∙◌}
-use Rattle.std.proofs.lemmas.List.{length-map}
-use Rattle.unit_law.specs.State.{code_at}
-use Rattle.unit_law.specs.Units.{first_from}
-use Rattle.unit_law.specs.Canonical.{can_start}
-use Rattle.bm_machine.specs.Shown.{standing_at, processor_of}
+use Rattle.std.proofs.Common.{◌≡◌, ℕ, map, sym, ◌∙◌, subst}
+use Rattle.bm_base.specs.Mask.{has_bit}
+use Rattle.unit_law.specs.State.{State, code_at, In}
+use Rattle.bm_machine.specs.declared.machine.Machine.TheInside.{Inside}
+use Rattle.bm_machine.specs.Shown.{starts_next, mode_of, processor_of}
+use Rattle.bm_machine.proofs.Running.{able_in}
+use Rattle.bm_machine.proofs.Ables.{lowest_is}
+use Rattle.bm_machine.proofs.machine.Machine.lowest_start.Given as given
 use Rattle.bm_machine.proofs.machine.Machine.lowest_start.Goals as goal
+
+-- the state of a machine by its fields
+abbrev state_of : (g : given.Over) → Inside g.row.U.Denot g.row.T.Denot → State
+state_of g i = record { clock = i.clock; mode = mode_of i.stage; processors = map processor_of i.actors.items; fired = g.U.BarrierUnit.fired i.unit; world = record { cells = i.cells.items; memory = i.store; output = i.output.items } }
 
 pub returns : goal.returns
 returns g c =
-    let long : length (map processor_of c.self.inside.actors.items) ≡ c.self.inside.core.now.machine.processors = subst (λ v. length v.state.processors ≡ v.program.machine.processors) (sym c.self.view_is) c.facts.ensures.stands.processors in
-    let n : length c.deref.result.now ≡ c.self.inside.core.now.machine.processors = ap length c.deref.ensures.value ∙ sym (length-map c.self.inside.actors.items processor_of) ∙ long in
-    rw (← c.self.view_is) (c.lowest_start.ensures c.self.inside.clock ∙ ap (λ l. first_from (can_start (code_at c.self.inside.core.now c.args.block) (standing_at c.self.inside.clock l)) 0 (length l)) c.deref.ensures.value ∙ ap (first_from (can_start (code_at c.self.inside.core.now c.args.block) (standing_at c.self.inside.clock c.self.inside.actors.items)) 0) (sym (ap length c.deref.ensures.value) ∙ n))
+    let v = c.args.self.now in
+    let inside = subst (λ v. v.state.mode ≡ In c.args.block) (sym c.self.view_is) c.requires in
+    let able = subst (λ v. (q : ℕ) → has_bit c.self.inside.able q ≡ starts_next (code_at v.program c.args.block) v.state q) c.self.view_is (able_in c.self.inside.image.now (state_of g c.self.inside) c.self.inside.able c.args.block inside c.self.invariant.able_is) in
+    c.lowest.ensures ∙ lowest_is (has_bit c.self.inside.able) (code_at v.program c.args.block) v.state v.program.machine.processors 128 able c.facts.ensures.stands.processors c.facts.ensures.stands.few

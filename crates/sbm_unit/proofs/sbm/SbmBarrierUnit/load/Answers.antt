@@ -1,5 +1,5 @@
 use Rattle.std.proofs.Common.{◌≡◌, ◌≤◌, List, take, length, ℕ, map, false, ap, ◌∙◌, arith, take_all}
-use Rattle.sbm_unit.specs.Lawful.{front_none}
+use Rattle.sbm_unit.proofs.Lawful.{front_none}
 use Rattle.sbm_unit.proofs.sbm.SbmBarrierUnit.load.Goals as goal
 
 copied : (items masks : List ℕ) (i : ℕ) → take i items ≡ take i masks → length masks ≤ i → i ≤ length masks → take (length masks) items ≡ masks

@@ -1,7 +1,10 @@
-use Rattle.std.proofs.Common.{◌≡◌, ◌<◌, ◌≤◌, List, take, length, length-take-le, get_or-take, ℕ, Some, slice_get, get_or, sym, ◌∙◌, arith}
+use Rattle.std.proofs.Common.{◌≡◌, ◌<◌, ◌≤◌, List, take, length, length-take-le, get_or-take, ℕ, Some, slice_get, get_or, sym, ◌∙◌, subst, arith}
 use Rattle.std.proofs.lemmas.Option.{slice_get_read}
 use Rattle.std.proofs.lemmas.Bool.{cond-true, cond-false}
-use Rattle.sbm_unit.specs.Lawful.{choice_past, choice_head, front_more}
+use Rattle.bm_base.specs.Mask.{has_bit}
+use Rattle.unit_law.specs.Units.{IsLawful}
+use Rattle.sbm_unit.specs.Queue.{fired_front}
+use Rattle.sbm_unit.proofs.Lawful.{choice_past, choice_head, front_more, queue_lawful}
 use Rattle.sbm_unit.proofs.sbm.SbmBarrierUnit.pick.Goals as goal
 
 -- what the head's slot holds is the head of the queue
@@ -19,3 +22,12 @@ returns-clause-chosen c = rw (← c.self.view_is) (sym (choice_head c.self.insid
 
 pub returns-clause-fired : goal.returns-clause-fired
 returns-clause-fired c = rw (← c.self.view_is) (front_more c.self.inside.head (take c.self.inside.count c.self.inside.slots.items) (let x = length-take-le c.self.inside.count c.self.inside.slots.items c.self.invariant.0 in omega arith))
+
+pub returns-then-self-clause-lawful : goal.returns-then-self-clause-lawful
+returns-then-self-clause-lawful c = subst (IsLawful c.args.self.now.masks (fired_front c.args.self.now.head c.args.self.now.masks) (has_bit c.args.self.now.waiting)) (sym (returns-then-self-clause-chosen c)) (queue_lawful c.args.self.now)
+
+pub returns-then-not-is_within-clause-lawful : goal.returns-then-not-is_within-clause-lawful
+returns-then-not-is_within-clause-lawful c = subst (IsLawful c.args.self.now.masks (fired_front c.args.self.now.head c.args.self.now.masks) (has_bit c.args.self.now.waiting)) (sym (returns-then-not-is_within-clause-chosen c)) (queue_lawful c.args.self.now)
+
+pub returns-clause-lawful : goal.returns-clause-lawful
+returns-clause-lawful c = subst (IsLawful c.args.self.now.masks (fired_front c.args.self.now.head c.args.self.now.masks) (has_bit c.args.self.now.waiting)) (sym (returns-clause-chosen c)) (queue_lawful c.args.self.now)

@@ -1,0 +1,10 @@
+pub mod Steps
+pub mod Shapes
+pub mod Shortness
+pub mod Naming
+pub mod Alike
+pub mod PlainParts
+pub mod Rows
+pub mod Courses
+pub mod Lines
+pub mod Limits

@@ -1,0 +1,9 @@
+pub mod Means
+pub mod Reasoned
+pub mod Kept
+pub mod Images
+pub mod Tallies
+pub mod Made
+pub mod LawFacts
+pub mod AddUp
+pub mod FrontFacts

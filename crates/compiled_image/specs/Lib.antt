@@ -1,0 +1,7 @@
+pub mod Faithful
+pub mod Compiled
+pub mod Reasons
+pub mod Summarised
+pub mod Laws
+pub mod Fronts
+pub mod Counts

@@ -1,0 +1,98 @@
+// What a row of data gives.
+ghost use Rattle.std.specs.Prelude.{◌≡◌, ◌≤◌, ◌∷◌, ◌++◌, [], length, IfOk, OnOk, IfErr};
+ghost use Rattle.data_file.specs.declared.fault.RowFault.{RowFault};
+ghost use Rattle.data_file.specs.Data.{has_name_form};
+ghost use Rattle.data_file.specs.Reading.{Finds, gathered, gift_of};
+ghost use Rattle.data_file.specs.Shown.{gift_shown};
+ghost use Rattle.std.specs.List.{list_all};
+ghost use Rattle.bm_base.specs.Names.{begins_name, goes_on_name};
+
+use crate::fault::RowFault;
+use bm_base::{Sequence, number};
+use field_rows::Fields;
+use std::alloc::Global;
+
+/// Values for a name.
+#[derive(Drop)]
+pub struct Gift<'a> {
+    /// The name.
+    pub name: &'a [u8],
+    /// Its values: at least one.
+    pub values: Sequence<i64>,
+}
+
+fn begins(byte: u8) -> bool
+    ensures { result ≡ begins_name byte }
+{
+    byte.is_ascii_alphabetic() || byte == b'_'
+}
+
+fn goes_on(byte: u8) -> bool
+    ensures { result ≡ goes_on_name byte }
+{
+    begins(byte) || byte.is_ascii_digit()
+}
+
+fn all_go_on(bytes: &[u8]) -> bool
+    ensures { result ≡ list_all goes_on_name bytes.now }
+{
+    bytes.iter().all(|byte| goes_on(*byte))
+}
+
+/// Whether these bytes have the form of a name: a letter or `_`, and then letters, `_` and digits.
+fn has_name_form(bytes: &[u8]) -> bool
+    ensures { result ≡ has_name_form bytes.now }
+{
+    match bytes {
+        [first, rest @ ..] => begins(*first) && all_go_on(rest),
+        [] => false,
+    }
+}
+
+/// Puts a value at the end.
+fn add(values: &mut Sequence<i64>, value: i64) -> Result<(), RowFault>
+    ensures ok { OnOk result (values.new ≡ values.old ++ value ∷ []) }
+    ensures err { IfErr result (λ e. e ≡ RowFault.Memory) }
+{
+    match values.push(value) {
+        Ok(()) => Ok(()),
+        Err(_) => Err(RowFault::Memory),
+    }
+}
+
+/// The values that the fields spell.
+fn values(alloc: Global, mut fields: Fields<'_>) -> Result<Sequence<i64>, RowFault>
+    ensures found { Finds (λ v. v) (gathered [] fields.entry) result }
+    ensures few { IfOk result (λ v. length v ≤ length fields.entry) }
+{
+    let mut values = Sequence::new(alloc);
+    while let Some(field) = fields.next() {
+        match number(field) {
+            Ok(value) => add(&mut values, value)?,
+            Err(_) => return Err(RowFault::Refused),
+        }
+    }
+    Ok(values)
+}
+
+/// What the fields of a row give.
+pub(crate) fn read_gift<'a>(alloc: Global, mut fields: Fields<'a>) -> Result<Gift<'a>, RowFault>
+    ensures found { Finds gift_shown (gift_of fields.entry) result }
+    ensures some { IfOk result (λ g. 1 ≤ length g.values) }
+    ensures few { IfOk result (λ g. length g.values ≤ length fields.entry) }
+{
+    let Some(name) = fields.next() else {
+        return Err(RowFault::Refused);
+    };
+    if !has_name_form(name) {
+        return Err(RowFault::Refused);
+    }
+    match values(alloc, fields) {
+        Ok(values) => if values.items().is_empty() {
+            Err(RowFault::Refused)
+        } else {
+            Ok(Gift { name, values })
+        },
+        Err(fault) => Err(fault),
+    }
+}

@@ -1,0 +1,10 @@
+pub mod Firsts
+pub mod Chains
+pub mod Rows
+pub mod Counts
+pub mod Readiness
+pub mod Arrivals
+pub mod Fires
+pub mod Units
+pub mod Waits
+pub mod Loads

@@ -1,0 +1,86 @@
+// The lists of the processors' masks.
+ghost use Rattle.std.specs.Prelude.{◌≡◌, ℕ, ◌+◌, ◌*◌, ◌<◌, ◌≤◌, Bool, true, false, List, length, replicate, get_or, IfOk, Option, None};
+ghost use Rattle.std.specs.Prelude.{Some, if◌then◌else◌};
+ghost use Rattle.bm_base.specs.Mask.{has_bit};
+ghost use Rattle.dbm_unit.specs.Table.{how_many};
+ghost use Rattle.dbm_unit.specs.Lists.{led, advanced};
+
+use bm_base::{MOST_PROCESSORS, Mask};
+use std::alloc::{AllocError, Global};
+
+/// For each of the 128 processors a list of its masks, linked by index: `first` has the index of
+/// the first mask, and the node of mask j and member p, which is the entry `128 * j + p` of `next`,
+/// the index of the mask that follows it.
+#[derive(Drop)]
+pub struct Lists {
+    pub first: Vec<Option<usize>>,
+    pub next: Vec<Option<usize>>,
+}
+
+impl Lists {
+    /// Empty lists, with the nodes of so many masks.
+    pub fn new(alloc: Global, room: usize) -> Result<Lists, AllocError>
+        ensures first { IfOk result (λ lists. lists.first.items ≡ replicate 128 None) }
+        ensures next { IfOk result (λ lists. lists.next.items ≡ replicate (room * 128) None) }
+    {
+        let nodes = room.checked_mul(128).ok_or(AllocError)?;
+        let first = vec![in alloc; None; 128]?;
+        let next = vec![in alloc; None; nodes]?;
+        Ok(Lists { first, next })
+    }
+
+    /// Empties the lists.
+    pub fn clear(&mut self)
+        ensures first { self.new.first.items ≡ replicate (length self.old.first.items) None }
+        ensures next { self.new.next.items ≡ self.old.next.items }
+    {
+        for p in 0..self.first.len() {
+            self.first[p] = None;
+        }
+    }
+
+    /// Puts mask j at the front of its members' lists, and says how many they are.
+    pub fn lead(&mut self, j: usize, mask: Mask) -> u8
+        requires first { length self.old.first.items ≡ 128 }
+        requires next { j * 128 + 128 ≤ length self.old.next.items }
+        ensures size { result ≡ how_many (has_bit mask) 128 }
+        ensures members { (p : ℕ) → has_bit mask p ≡ true → p < 128 }
+        ensures firsts { (p : ℕ) → p < 128 → get_or self.new.first.items p None ≡ led mask j p (get_or self.old.first.items p None) }
+        ensures links { (p : ℕ) → p < 128 → has_bit mask p ≡ true → get_or self.new.next.items (j * 128 + p) None
+            ≡ get_or self.old.first.items p None }
+        ensures behind { (k : ℕ) → j * 128 + 128 ≤ k → get_or self.new.next.items k None ≡ get_or self.old.next.items k None }
+        ensures first_room { length self.new.first.items ≡ length self.old.first.items }
+        ensures next_room { length self.new.next.items ≡ length self.old.next.items }
+    {
+        // The number has 128 bits, so no processor from 128 on is a member.
+        let _number = mask.number();
+        let mut size = 0;
+        for p in 0..MOST_PROCESSORS {
+            if !mask.has(p) {
+                continue;
+            }
+            let member = usize::from(p);
+            self.next[j * 128 + member] = self.first[member];
+            self.first[member] = Some(j);
+            size += 1;
+        }
+        size
+    }
+
+    /// Takes mask j from the front of its members' lists.
+    pub fn advance(&mut self, j: usize, mask: Mask)
+        requires first { length self.old.first.items ≡ 128 }
+        requires next { j * 128 + 128 ≤ length self.old.next.items }
+        ensures firsts { (p : ℕ) → p < 128 → get_or self.new.first.items p None
+            ≡ advanced mask (get_or self.old.next.items (j * 128 + p) None) p (get_or self.old.first.items p None) }
+        ensures first_room { length self.new.first.items ≡ length self.old.first.items }
+        ensures next { self.new.next.items ≡ self.old.next.items }
+    {
+        for p in 0..MOST_PROCESSORS {
+            if mask.has(p) {
+                let member = usize::from(p);
+                self.first[member] = self.next[j * 128 + member];
+            }
+        }
+    }
+}

@@ -1,0 +1,3 @@
+mod FieldTexts
+mod RowTexts
+pub mod Spelled

@@ -1,0 +1,3 @@
+pub mod ImageLines
+pub mod Images
+pub mod Counts

@@ -1,0 +1,5 @@
+pub mod Edited
+pub mod Decided
+pub mod LawFacts
+pub mod TurnFacts
+pub mod Worked

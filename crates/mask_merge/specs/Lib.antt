@@ -1,0 +1,4 @@
+pub mod Reduced
+pub mod Laws
+pub mod Search
+pub mod Examples

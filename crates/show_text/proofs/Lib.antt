@@ -1,0 +1,4 @@
+pub mod Pairs
+pub mod Blocks
+pub mod Lines
+pub mod Once

@@ -1,0 +1,14 @@
+pub mod Built
+pub mod Cuts
+pub mod Draft
+pub mod Drafted
+pub mod Fields
+pub mod First
+pub mod Images
+pub mod Laws
+pub mod RowFits
+pub mod Rows
+pub mod Shown
+pub mod Texts
+pub mod Words
+pub mod Written

@@ -1,0 +1,18 @@
+//! The text of an image, both ways.
+#![tactic(auto)]
+
+mod built;
+mod cuts;
+mod draft;
+mod fault;
+mod line;
+mod loading;
+mod reading;
+#[cfg(test)]
+mod tests;
+mod words;
+mod writing;
+
+pub use loading::{LoadFault, load};
+pub use reading::texts_have_one_answer;
+pub use writing::write_image;

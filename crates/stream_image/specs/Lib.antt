@@ -1,0 +1,14 @@
+pub mod Line
+pub mod Check
+pub mod Firsts
+pub mod Keeps
+pub mod Image
+pub mod Laws
+pub mod Order
+pub mod Rest
+pub mod Refused
+pub mod Held
+pub mod Again
+pub mod Flat
+pub mod Columns
+pub mod Walk

@@ -1,0 +1,142 @@
+// Why a block, or an image, is refused.
+ghost use Rattle.std.specs.Prelude.{◌≡◌};
+ghost use Rattle.stream_image.specs.Refused as spec;
+
+/// The first thing that a block with its streams and masks does not keep, in this order; that its
+/// conflicting pairs are in order comes behind these.
+#[derive(Clone, Copy, Debug, PartialEq, Eq)]
+pub enum BlockFault {
+    /// A stream is given for a processor that the machine lacks; the lowest.
+    Processor {
+        processor: u8,
+    },
+    /// A number stands twice in the streams; the first repeat.
+    TupleTwice {
+        tuple: u8,
+    },
+    /// A number is a tuple and in no stream, or in a stream and no tuple; the least.
+    TupleMissing {
+        tuple: u8,
+    },
+    /// An operand is not an earlier value, or a name is not of the right kind; the first.
+    Operand {
+        tuple: u8,
+        place: u8,
+    },
+    /// The cell of `if` is not a value.
+    Cell {
+        cell: u8,
+    },
+    /// The waits of a processor are not as many as the masks that have it; the lowest.
+    Waits {
+        processor: u8,
+        waits: u64,
+        masks: u8,
+    },
+    /// A mask has no processor; the first.
+    MaskEmpty {
+        mask: u8,
+    },
+    /// A mask has a processor that the machine lacks; the first.
+    MaskBit {
+        mask: u8,
+    },
+}
+
+/// Why a block or an image is refused: the first cause in this order.
+#[derive(Clone, Copy, Debug, PartialEq, Eq)]
+pub enum ImageFault {
+    /// A stream is given for a processor that the machine lacks; the lowest.
+    Processor {
+        block: u32,
+        processor: u8,
+    },
+    /// A number stands twice in the streams; the first repeat by processor, then place.
+    TupleTwice {
+        block: u32,
+        tuple: u8,
+    },
+    /// A number is a tuple and in no stream, or in a stream and no tuple; the least.
+    TupleMissing {
+        block: u32,
+        tuple: u8,
+    },
+    /// An operand is not an earlier value, or a name is not of the right kind; the first tuple, the
+    /// first place counted from 0.
+    Operand {
+        block: u32,
+        tuple: u8,
+        place: u8,
+    },
+    /// The cell of `if` is not a value of the block.
+    Cell {
+        block: u32,
+        cell: u8,
+    },
+    /// The waits of a processor are not as many as the masks that have it; the lowest.
+    Waits {
+        block: u32,
+        processor: u8,
+        waits: u64,
+        masks: u8,
+    },
+    /// A mask has no processor; the first.
+    MaskEmpty {
+        block: u32,
+        mask: u8,
+    },
+    /// A mask has a processor that the machine lacks; the first.
+    MaskBit {
+        block: u32,
+        mask: u8,
+    },
+    /// Tuples a and b conflict and stand on one processor, b before a; the first by b, then a.
+    Order {
+        block: u32,
+        a: u8,
+        b: u8,
+    },
+    /// Tuples a and b conflict, and a is not ordered before b by processor, by barrier or by time; the
+    /// first by b, then a.
+    Unordered {
+        block: u32,
+        a: u8,
+        b: u8,
+    },
+    /// A next leads to no block; the first block, its first such target.
+    Target {
+        block: u32,
+        target: u32,
+    },
+    /// Memory ran out.
+    Memory,
+}
+
+/// The fault of the block of this number.
+pub(crate) fn in_block(block: u32, fault: BlockFault) -> ImageFault
+    ensures { result ≡ spec.in_block block fault }
+{
+    match fault {
+        BlockFault::Processor { processor } => ImageFault::Processor { block, processor },
+        BlockFault::TupleTwice { tuple } => ImageFault::TupleTwice { block, tuple },
+        BlockFault::TupleMissing { tuple } => ImageFault::TupleMissing { block, tuple },
+        BlockFault::Operand { tuple, place } => ImageFault::Operand {
+            block,
+            tuple,
+            place,
+        },
+        BlockFault::Cell { cell } => ImageFault::Cell { block, cell },
+        BlockFault::Waits {
+            processor,
+            waits,
+            masks,
+        } => ImageFault::Waits {
+            block,
+            processor,
+            waits,
+            masks,
+        },
+        BlockFault::MaskEmpty { mask } => ImageFault::MaskEmpty { block, mask },
+        BlockFault::MaskBit { mask } => ImageFault::MaskBit { block, mask },
+    }
+}

@@ -1,0 +1,16 @@
+pub mod Bounds
+pub mod Ordered
+pub mod Lines
+pub mod Steps
+pub mod Seen
+pub mod Sets
+pub mod Next
+pub mod Edits
+pub mod Places
+pub mod Knows
+pub mod Members
+pub mod Walks
+pub mod Laws
+pub mod Examples
+pub mod Ahead
+pub mod Gaps

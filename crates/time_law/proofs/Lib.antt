@@ -1,0 +1,14 @@
+pub mod Members
+pub mod Fold
+pub mod Lookups
+pub mod Timed
+pub mod TimedSteps
+pub mod TimedFire
+pub mod TimedLaws
+pub mod Points
+pub mod Runs
+pub mod ByTime
+pub mod Sound
+pub mod Tell
+pub mod WorkedTime
+pub mod LineFits

@@ -1,0 +1,4 @@
+pub mod TraceText
+pub mod EventLines
+pub mod Laws
+pub mod Begins
