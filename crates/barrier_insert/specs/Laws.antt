@@ -1,5 +1,6 @@
 -- What follows of inserted lines.
 use Rattle.std.specs.Prelude.{◌≡◌, ℕ, ◌<◌, ◌≤◌, List, length, Contains}
+use Rattle.bm_base.specs.declared.limits.TheConstants.{MOST_TUPLES}
 use Rattle.bm_base.specs.Machine.{Machine}
 use Rattle.tuple_ir.specs.declared.tuple.Tuple.{Tuple}
 use Rattle.line_model.specs.declared.line.Item.{Item}
@@ -15,7 +16,7 @@ use Rattle.barrier_insert.specs.Inserted.{IsInserted}
 
 -- a block of at most 128 tuples that a plan schedules greedily on a machine
 pub record IsScheduled (machine : Machine) (ts : List Tuple) (plan : Plan) : Type 0 where
-  pub few : length ts ≤ 128
+  pub few : length ts ≤ MOST_TUPLES
   pub job : IsJob (job_of machine ts)
   pub greedy : IsGreedy (job_of machine ts) plan
 

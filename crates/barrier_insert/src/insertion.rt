@@ -12,7 +12,7 @@ ghost use Rattle.barrier_insert.specs.Inserted.{assignment, AllOrderedNext, IsBa
 ghost use Rattle.barrier_insert.specs.Laws.{IsWhole};
 
 use crate::order::tuples_in_order;
-use bm_base::{Mask, Spec};
+use bm_base::{MOST_MASKS, MOST_PROCESSORS, MOST_TUPLES, Mask, Spec};
 use dependence::Deps;
 use line_model::Line;
 use list_schedule::Schedule;
@@ -27,7 +27,7 @@ fn mask_for(part: &Timeline, deps: &Deps, schedule: &Schedule, i: u8) -> Option<
     requires row { i < length deps.now.producers }
     requires new { list_any (nat_eq i) (tuples part.now.line) ≡ false }
     requires places { (t : ℕ) → t < length schedule.now.plan.places → place schedule.now.plan t < part.now.pace.processors }
-    requires few { part.now.pace.processors ≤ 128 }
+    requires few { part.now.pace.processors ≤ MOST_PROCESSORS }
     requires there { All (λ g. Contains (tuples part.now.line) g) (slice_index_or deps.now.producers i []) }
     requires known { All (λ g. g < length schedule.now.plan.places) (slice_index_or deps.now.producers i []) }
     ensures { let a = assignment part.now.pace deps.now.producers schedule.now.plan
@@ -53,8 +53,8 @@ fn put_next(part: &mut Timeline, deps: &Deps, schedule: &Schedule, i: u8) -> Res
     requires time { i < length part.old.pace.times }
     requires new { list_any (nat_eq i) (tuples part.old.line) ≡ false }
     requires places { (t : ℕ) → t < length schedule.now.plan.places → place schedule.now.plan t < part.old.pace.processors }
-    requires few { part.old.pace.processors ≤ 128 }
-    requires room { length (masks part.old.line) < 128 }
+    requires few { part.old.pace.processors ≤ MOST_PROCESSORS }
+    requires room { length (masks part.old.line) < MOST_MASKS }
     requires there { All (λ g. Contains (tuples part.old.line) g) (slice_index_or deps.now.producers i []) }
     requires known { All (λ g. g < length schedule.now.plan.places) (slice_index_or deps.now.producers i []) }
     ensures pace { part.new.pace ≡ part.old.pace }
@@ -79,15 +79,15 @@ pub fn insert(
     schedule: &Schedule,
     spec: &Spec,
 ) -> Result<Line, AllocError>
-    requires few { length block.now.tuples ≤ 128 }
+    requires few { length block.now.tuples ≤ MOST_TUPLES }
     requires deps { AreDepsOf deps.now block.now.tuples }
     requires schedule { IsGreedy (job_of spec.now block.now.tuples) schedule.now.plan }
     ensures inserted { IfOk result (λ line. IsInserted spec.now block.now.tuples schedule.now.plan line.items) }
     ensures ordered { IfOk result (λ line. AllOrdered (pace_on spec.now block.now.tuples) deps.now.producers line.items) }
     ensures whole { IfOk result (λ line. IsWhole spec.now block.now.tuples line.items) }
 {
-    prove!(deps.len() <= 128);
-    prove!(spec.processors() <= 128);
+    prove!(deps.len() <= MOST_TUPLES);
+    prove!(spec.processors() <= MOST_PROCESSORS);
     let order = tuples_in_order(alloc, schedule, deps.len() as u8)?;
     let mut part = Timeline::empty(alloc, block, spec)?;
     for i in &order {

@@ -1,5 +1,6 @@
 -- What follows of plans.
 use Rattle.std.specs.Prelude.{◌≡◌, ℕ, ◌<◌, ◌≤◌, List, length}
+use Rattle.bm_base.specs.declared.limits.TheConstants.{MOST_TUPLES}
 use Rattle.bm_base.specs.Machine.{Machine, IsMachine}
 use Rattle.tuple_ir.specs.declared.tuple.Tuple.{Tuple}
 use Rattle.tuple_ir.specs.Sound.{IsBlockSound}
@@ -14,7 +15,7 @@ use Rattle.block_plan.specs.Planned.{IsPlanned, IsInOrder}
 
 -- a block of at most 128 tuples has a plan on a lawful machine, and only one
 abbrev pub BlocksHaveOnePlan : Type 0
-BlocksHaveOnePlan = (machine : Machine) (ts : List Tuple) → IsMachine machine → length ts ≤ 128 → (plan : Plan)
+BlocksHaveOnePlan = (machine : Machine) (ts : List Tuple) → IsMachine machine → length ts ≤ MOST_TUPLES → (plan : Plan)
     × IsPlanned machine ts plan × ((other : Plan) → IsPlanned machine ts other → other ≡ plan)
 
 -- no barrier of its line can be left out, and no two merged
@@ -23,8 +24,8 @@ PlansAreIrreducible = (machine : Machine) (ts : List Tuple) (plan : Plan) → Is
     → IsIrreducible (pace_on machine ts) (producers_of ts) plan.line.items
 
 abbrev pub PlansAreInOrder : Type 0
-PlansAreInOrder = (machine : Machine) (ts : List Tuple) (plan : Plan) → IsMachine machine → length ts ≤ 128 → IsPlanned machine ts plan
-    → IsInOrder machine ts plan.line.items
+PlansAreInOrder = (machine : Machine) (ts : List Tuple) (plan : Plan) → IsMachine machine → length ts ≤ MOST_TUPLES
+    → IsPlanned machine ts plan → IsInOrder machine ts plan.line.items
 
 -- a sound block is sound with a line in order
 abbrev pub LinesInOrderAreSound : Type 0

@@ -7,7 +7,7 @@ ghost use Rattle.block_plan.specs.Planned.{IsPlanned, IsInOrder};
 
 use crate::planned::Plan;
 use barrier_insert::insert;
-use bm_base::Spec;
+use bm_base::{MOST_TUPLES, Spec};
 use dependence::conflicts;
 use list_schedule::schedule;
 use mask_merge::reduce;
@@ -20,7 +20,7 @@ use tuple_ir::Block;
 /// (R. L. Graham, Bounds on multiprocessing timing anomalies, SIAM J. Appl. Math. 17, 1969). It
 /// fails only where memory runs out.
 pub fn plan(alloc: Global, block: &Block, spec: &Spec) -> Result<Plan, AllocError>
-    requires { length block.now.tuples ≤ 128 }
+    requires { length block.now.tuples ≤ MOST_TUPLES }
     ensures planned { IfOk result (λ p. IsPlanned spec.now block.now.tuples p) }
     ensures irreducible { IfOk result
         (λ p. IsIrreducible (pace_on spec.now block.now.tuples) (producers_of block.now.tuples) p.line.items) }

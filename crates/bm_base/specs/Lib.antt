@@ -5,6 +5,7 @@ pub mod Strict
 pub mod Hex
 pub mod Lines
 pub mod Mask
+pub mod Mixing
 pub mod Spec
 pub mod Machine
 pub mod Entry

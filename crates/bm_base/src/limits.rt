@@ -6,6 +6,9 @@ pub const MOST_PROCESSORS: u8 = 128;
 /// How many ticks lie at most between the firing of a mask and the resuming of its members.
 pub const MOST_DELAY: u8 = 100;
 
+/// How many items a generated program has at most.
+pub const MOST_STATEMENTS: u32 = 10_000;
+
 /// How many ticks an instruction takes at most.
 pub const MOST_TICKS: u16 = 1000;
 

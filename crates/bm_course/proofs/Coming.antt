@@ -110,6 +110,17 @@ Comes-begin Means f x a s = record {
   later = omega arith;
 }
 
+-- where memory runs out before it
+pub Comes-starve-first : {X A : Type 0} (Means : X → A → Type 0) (f : FilesSeen) (a : A) → Comes Means f f (give a) (Err Memory)
+Comes-starve-first Means f a = record {
+  contents = [];
+  names = [];
+  reading = tt;
+  ends = inl (Asked-nothing f);
+  held = Keeps-same f.held;
+  later = omega arith;
+}
+
 -- behind a value, what stops the rest stops the whole
 StopsReading-then : {A B : Type 0} (before mid now : FilesSeen) (m : Course A) (f : A → Course B) (x : A) (cs ds as' bs : List (List ℕ)) (e : Stop) → Asked before mid as' → before.faults ≤ mid.faults
     → ((rest : List (List ℕ)) → m (cs ++ rest) (Gives x rest)) → StopsReading mid now (f x) ds bs e → StopsReading before now (m >>= f) (cs ++ ds) (as' ++ bs) e

@@ -5,6 +5,7 @@ pub mod Concluding
 pub mod Ended
 pub mod Settling
 pub mod Leading
+pub mod Halving
 pub mod Bounds
 pub mod Statuses
 pub mod Answering

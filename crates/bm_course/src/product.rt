@@ -11,7 +11,7 @@ use crate::{Stop, status};
 use bm_io::{FileFault, Files, Sink, SinkFault};
 
 /// Sends the lines in order, one write each, up to the first that is refused.
-fn send<S: Sink>(sink: &mut S, lines: &[&[u8]]) -> Result<(), SinkFault>
+pub fn send_lines<S: Sink>(sink: &mut S, lines: &[&[u8]]) -> Result<(), SinkFault>
     ensures sent { Sent (S.taken sink.old) (S.taken sink.new) (map (λ line. line.now) lines.now) result }
     ensures cause { HasCause Failed (S.faults sink.old) (S.faults sink.new) result }
 {
@@ -42,7 +42,7 @@ pub fn write_product<'a, F: Files, O: Sink>(
 {
     match files.write(name, bytes) {
         Ok(()) => {
-            send(out, lines)?;
+            send_lines(out, lines)?;
             Ok(status::ENDED)
         }
         Err(FileFault::Failed) => Err(Stop::UnwrittenFile { name }),

@@ -18,6 +18,12 @@ pub const MACHINE: u8 = 4;
 /// An image is none.
 pub const IMAGE: u8 = 5;
 
+/// A script is none.
+pub const SCRIPT: u8 = 6;
+
+/// Data are none.
+pub const DATA: u8 = 7;
+
 /// It is still going.
 pub const GOING: u8 = 8;
 

@@ -8,7 +8,8 @@ use Rattle.src_tree.specs.declared.tree.Expr.{Expr}
 use Rattle.src_tree.specs.declared.tree.Expr.TheVariants as e
 use Rattle.src_tree.specs.declared.tree.Stmt.{Stmt}
 use Rattle.src_tree.specs.declared.tree.Stmt.TheVariants as s
-use Rattle.bm_gen.specs.Draws.{Draw, below, mixed, after}
+use Rattle.bm_gen.specs.Draws.{Draw, below, after}
+use Rattle.bm_base.specs.Mixing.{mixed}
 use Rattle.bm_gen.specs.Generator as g
 
 pub data IsIndex : Expr → Type 0 where

@@ -1,16 +1,6 @@
 -- Draws of numbers, each from the state that the draw before it left.
-use Rattle.std.specs.Prelude.{ℕ, ◌+◌, ◌*◌, ◌/◌, ◌%◌, ◌^◌, bit_xor}
-
--- a number's bits, and those that stand this many places to the left of them
-abbrev pub folded : ℕ → ℕ → ℕ
-folded places z = bit_xor z (z / 2 ^ places)
-
--- the finaliser of SplitMix64
-unfoldable pub mixed : ℕ → ℕ
-mixed z =
-    let a : ℕ = (folded 30 z * 0xBF58476D1CE4E5B9) % 2 ^ 64 in
-    let b : ℕ = (folded 27 a * 0x94D049BB133111EB) % 2 ^ 64 in
-    folded 31 b
+use Rattle.std.specs.Prelude.{ℕ, ◌+◌, ◌%◌, ◌^◌}
+use Rattle.bm_base.specs.Mixing.{mixed}
 
 -- from a state to what is drawn, and the state behind it
 abbrev pub Draw : Type 0 → Type 0

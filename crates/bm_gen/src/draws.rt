@@ -4,20 +4,12 @@
 ghost use Rattle.std.specs.Prelude.{◌≡◌, ◌<◌};
 ghost use Rattle.bm_gen.specs.Draws as spec;
 
+use bm_base::mixed;
+
 /// The source of the draws.
 #[derive(Drop)]
 pub(crate) struct Draws {
     pub(crate) state: u64,
-}
-
-/// The finaliser of SplitMix64.
-#[tactic(auto, unfolding(crate::specs::Draws::mixed))]
-fn mixed(z: u64) -> u64
-    ensures { result ≡ spec.mixed z }
-{
-    let a = (z ^ (z >> 30)).wrapping_mul(0xBF58476D1CE4E5B9);
-    let b = (a ^ (a >> 27)).wrapping_mul(0x94D049BB133111EB);
-    b ^ (b >> 31)
 }
 
 impl Draws {

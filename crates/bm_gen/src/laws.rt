@@ -10,13 +10,13 @@ pub fn generated_trees_are_named()
     ensures { AreNamed }
 {}
 
-/// The canonical text of a generated tree has at most 4600 bytes an item, and 200 for the
-/// declarations.
+/// The canonical text of a generated tree has at most `MOST_ITEM_BYTES` an item, and
+/// `MOST_DECLARATION_BYTES` for the declarations.
 pub fn generated_texts_are_short()
     ensures { AreShort }
 {}
 
-/// A generated tree of at most 10,000 items is plain: its text is short enough to be read, and keeps
+/// A generated tree of at most `MOST_STATEMENTS` items is plain: its text is short enough to be read, and keeps
 /// the limits on depth and nodes.
 pub fn generated_trees_are_plain()
     ensures { ArePlain }
@@ -29,7 +29,7 @@ pub fn same_trees_are_named_alike()
     ensures { SameAreNamedAlike }
 {}
 
-/// The text of a generated tree of at most 10,000 items reads as the program that the tree is named
+/// The text of a generated tree of at most `MOST_STATEMENTS` items reads as the program that the tree is named
 /// by.
 pub fn generated_texts_are_read_back()
     ensures { AreReadBack }

@@ -7,6 +7,7 @@ mod draws;
 mod expressions;
 mod laws;
 mod program;
+mod sizes;
 mod statements;
 
 pub use laws::{
@@ -14,6 +15,7 @@ pub use laws::{
     generated_trees_are_plain, same_trees_are_named_alike,
 };
 pub use program::generate;
+pub use sizes::{MOST_DECLARATION_BYTES, MOST_ITEM_BYTES};
 
 #[cfg(test)]
 mod tests;

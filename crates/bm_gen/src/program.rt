@@ -13,6 +13,8 @@ use crate::laws::{
     generated_texts_are_short, generated_trees_are_named, generated_trees_are_plain,
 };
 use crate::statements::several;
+use crate::{MOST_DECLARATION_BYTES, MOST_ITEM_BYTES};
+use bm_base::MOST_STATEMENTS;
 use sqlite_items::Items;
 use src_tree::{Decl, Program};
 use std::alloc::{AllocError, Global};
@@ -64,17 +66,18 @@ fn declarations(alloc: Global) -> Result<Items<Decl>, AllocError>
 
 /// The program of a seed: its variables and arrays, and a body of this many items, where an item is
 /// a statement or two. The same numbers give the same program. Its text is read again as the same
-/// program, and has at most `4600 * statements + 200` bytes.
+/// program, and has at most [`MOST_ITEM_BYTES`] bytes an item and [`MOST_DECLARATION_BYTES`]
+/// for the declarations.
 ///
 /// # Errors
 ///
 /// `AllocError` where there is no memory for the tree.
 pub fn generate(alloc: Global, seed: u64, statements: u32) -> Result<Program, AllocError>
-    requires { statements ≤ 10000 }
+    requires { statements ≤ MOST_STATEMENTS }
     ensures tree { IfOk result (λ p. p ≡ spec.generated seed statements) }
     ensures plain { IfOk result (λ p. IsPlain p) }
     ensures named { IfOk result (λ p. HasProgram p) }
-    ensures short { IfOk result (λ p. length (program_text p) ≤ 4600 * statements + 200) }
+    ensures short { IfOk result (λ p. length (program_text p) ≤ MOST_ITEM_BYTES * statements + MOST_DECLARATION_BYTES) }
 {
     generated_trees_are_plain();
     generated_trees_are_named();

@@ -1,7 +1,7 @@
 -- What callers see of a running machine.
 use Rattle.std.specs.Prelude.{◌≡◌, ℕ, ◌+◌, ◌≤◌, ◌<◌, Bool, ◌&&◌, nat_lt, List, [], ◌∷◌, take, map, length, get_or, Option, Some, None}
 use Rattle.std.specs.Prelude.{if◌then◌else◌}
-use Rattle.bm_base.specs.declared.limits.TheConstants.{MOST_BUDGET}
+use Rattle.bm_base.specs.declared.limits.TheConstants.{MOST_BUDGET, MOST_TUPLES, MOST_TICKS, MOST_DELAY}
 use Rattle.bm_base.specs.Memory.{Content}
 use Rattle.tuple_ir.specs.declared.tuple.Tuple.{Tuple}
 use Rattle.bm_base.specs.Memories.{IsMemoryOf}
@@ -63,9 +63,9 @@ unit_agrees m s Ended queue waiting = Unit {0}
 -- time away; a hold is over at most 100 ticks later; and what it has started in the whole run took a tick each
 abbrev pub works_rightly : Code → ℕ → ℕ → Work → Type 0
 works_rightly code clock count Idle = count ≤ clock
-works_rightly code clock count (Busy until t rs) = (clock ≤ until) × (until ≤ clock + 1000) × (count ≤ until) × (count ≤ clock + 1)
+works_rightly code clock count (Busy until t rs) = (clock ≤ until) × (until ≤ clock + MOST_TICKS) × (count ≤ until) × (count ≤ clock + 1)
     × ((x : Tuple) × (tuple_at code t ≡ Some x) × (length rs ≡ arity x))
-works_rightly code clock count (Held until) = (until ≤ clock + 100) × (count ≤ clock)
+works_rightly code clock count (Held until) = (until ≤ clock + MOST_DELAY) × (count ≤ clock)
 
 abbrev pub all_work_rightly : Program → State → List ℕ → Mode → Type 0
 all_work_rightly m s counts (In b) = (b < length m.blocks)
@@ -79,7 +79,7 @@ pub record IsKept (m : Program) (s : State) (counts : List ℕ) (told capacity :
   pub early : s.clock ≤ MOST_BUDGET
   pub few : (p : ℕ) → get_or counts p 0 ≤ s.clock + 1
   pub long : length counts ≡ m.machine.processors
-  pub cells : length s.world.cells ≡ 128
+  pub cells : length s.world.cells ≡ MOST_TUPLES
   pub work : all_work_rightly m s counts s.mode
   pub room : (b : ℕ) → length (masks (code_at m b).line) ≤ capacity
   pub told_is : waiting ≡ told

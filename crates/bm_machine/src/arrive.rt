@@ -14,14 +14,14 @@ ghost use Rattle.bm_machine.specs.declared.agenda.Due.{Due};
 use crate::actor::{Actor, Task};
 use crate::agenda::{Agenda, Due};
 use crate::search::{is_waiting, may_start};
-use bm_base::Mask;
+use bm_base::{MOST_PROCESSORS, Mask};
 use line_model::StreamItem;
 use stream_image::Image;
 use unit_law::BarrierUnit;
 
 /// Tells the unit that p waits, where it does and the unit has not been told.
 fn arrive_if<U: BarrierUnit>(unit: &mut U, told: &mut Mask, p: u8, waits: bool)
-    requires one { p < 128 }
+    requires one { p < MOST_PROCESSORS }
     requires told { U.waiting unit.old ≡ told.old }
     requires unfired { IsTrue waits → has_unfired (U.queue unit.old) (U.fired unit.old) p ≡ true }
     ensures told { U.waiting unit.new ≡ told.new }
@@ -39,7 +39,7 @@ fn arrive_if<U: BarrierUnit>(unit: &mut U, told: &mut Mask, p: u8, waits: bool)
 
 /// Adds p, where it can start a tuple.
 fn add_if(able: &mut Mask, p: u8, starts: bool)
-    requires { p < 128 }
+    requires { p < MOST_PROCESSORS }
     ensures { (q : ℕ) → has_bit able.new q ≡ (has_bit able.old q || (starts && q == p)) }
 {
     if starts {
@@ -57,7 +57,7 @@ pub(crate) fn see<U: BarrierUnit>(
     actor: &Actor,
     clock: u64,
 )
-    requires one { p < 128 }
+    requires one { p < MOST_PROCESSORS }
     requires told { U.waiting unit.old ≡ told.old }
     requires unfired { (is_free clock (work_of actor.now.task) && is_wait (slice_get stream.now actor.now.place)) ≡ true
         → has_unfired (U.queue unit.old) (U.fired unit.old) p ≡ true }
@@ -175,7 +175,7 @@ pub(crate) fn release<U: BarrierUnit>(
 )
     requires block { block < length image.now.blocks }
     requires long { length actors.now ≡ image.now.machine.processors }
-    requires few { image.now.machine.processors ≤ 128 }
+    requires few { image.now.machine.processors ≤ MOST_PROCESSORS }
     requires later { clock ≤ tick }
     requires agenda { agenda.old ≡ dues_of clock (map processor_of actors.now) }
     requires least { (p : ℕ) (due : Due) → due_at agenda.old p ≡ Some due → tick ≤ due.tick }
@@ -223,7 +223,7 @@ fn after_fire(actor: Actor, is_member: bool, until: u64) -> Actor
 
 /// The members of the mask pass their waits, and are held until this tick.
 pub(crate) fn pass(actors: &mut [Actor], mask: Mask, until: u64)
-    requires few { length actors.old ≤ 128 }
+    requires few { length actors.old ≤ MOST_PROCESSORS }
     requires short { (p : ℕ) (a : Actor) → slice_get actors.old p ≡ Some a → has_bit mask p ≡ true → a.place < 18446744073709551615 }
     ensures { map processor_of actors.new ≡ passed until mask 0 (map processor_of actors.old) }
 {

@@ -18,7 +18,7 @@ use crate::history::History;
 use crate::laws::image_laws;
 use crate::search::{lowest, without_one};
 use crate::work::{cell, finish_event, print, put, read, value};
-use bm_base::{MOST_BUDGET, Mask, Store};
+use bm_base::{MOST_BUDGET, MOST_TUPLES, Mask, Store};
 use line_model::StreamItem;
 use std::alloc::{AllocError, Global};
 use std::marker::Model;
@@ -107,7 +107,7 @@ impl<'a, U: BarrierUnit, T: Timing> Machine<'a, U, T> {
         };
         let actors = vec![in alloc; rest; processors]?;
         let counts = vec![in alloc; 0; processors]?;
-        let cells = vec![in alloc; 0; 128]?;
+        let cells = vec![in alloc; 0; MOST_TUPLES]?;
         let agenda = Agenda::new(alloc, processors)?;
         let mut unit = unit;
         let mut told = Mask::empty();

@@ -7,7 +7,7 @@ ghost use Rattle.unit_law.specs.Canonical.{is_do};
 ghost use Rattle.bm_machine.specs.Shown.{work_of};
 
 use crate::actor::{Actor, Task};
-use bm_base::Mask;
+use bm_base::{MOST_PROCESSORS, Mask};
 use line_model::StreamItem;
 
 /// Whether a processor can go on at this clock.
@@ -57,7 +57,7 @@ pub(crate) fn may_start(stream: &[StreamItem], actor: &Actor, clock: u64) -> boo
 
 /// The lowest processor of a set.
 pub(crate) fn lowest(mask: Mask) -> Option<u8>
-    ensures { result ≡ first_from (has_bit mask) 0 128 }
+    ensures { result ≡ first_from (has_bit mask) 0 MOST_PROCESSORS }
 {
     let number = mask.number();
     if number == 0 {
@@ -69,7 +69,7 @@ pub(crate) fn lowest(mask: Mask) -> Option<u8>
 
 /// A set without one processor.
 pub(crate) fn without_one(mask: Mask, p: u8) -> Mask
-    requires { p < 128 }
+    requires { p < MOST_PROCESSORS }
     ensures { (q : ℕ) → has_bit result q ≡ (has_bit mask q && not (q == p)) }
 {
     let mut one = Mask::empty();

@@ -11,11 +11,24 @@ pub enum MachineWord<'a> {
 
 /// Where in its interval each instruction's time lies.
 #[derive(Clone, Copy, Debug, PartialEq, Eq)]
-pub enum ScriptWord {
+pub enum ScriptWord<'a> {
     /// Each instruction takes its least time.
     Least,
     /// Each instruction takes its greatest time.
     Most,
+    /// Pseudorandom times from this seed.
+    Seed { n: u64 },
+    /// The times of the script in this file.
+    File { name: &'a str },
+}
+
+/// The memory that a run or an evaluation begins with, as a word names it.
+#[derive(Clone, Copy, Debug, PartialEq, Eq)]
+pub enum DataWord<'a> {
+    /// The declared memory.
+    Declared,
+    /// The declared memory with the values of this file laid over it.
+    File { name: &'a str },
 }
 
 /// The barrier unit of the machine.
@@ -27,13 +40,15 @@ pub enum UnitWord {
     Dynamic,
 }
 
-/// How a run goes: the words `UNIT SCRIPT none BUDGET`.
+/// How a run goes: the words `UNIT SCRIPT DATA BUDGET`.
 #[derive(Clone, Copy, Debug, PartialEq, Eq)]
-pub struct RunWords {
+pub struct RunWords<'a> {
     /// The barrier unit.
     pub unit: UnitWord,
     /// The times of the instructions.
-    pub script: ScriptWord,
+    pub script: ScriptWord<'a>,
+    /// The memory that it begins with.
+    pub given: DataWord<'a>,
     /// For how many ticks, at most 10^12.
     pub budget: u64,
 }
@@ -45,6 +60,8 @@ pub enum Command<'a> {
     Eval {
         /// The name of the source's file.
         program: &'a str,
+        /// The memory that it begins with.
+        given: DataWord<'a>,
         /// How many turns, at most 10^9.
         turns: u64,
     },
@@ -55,7 +72,7 @@ pub enum Command<'a> {
         /// The machine that it is compiled for.
         machine: MachineWord<'a>,
         /// How it is run.
-        run: RunWords,
+        run: RunWords<'a>,
     },
     /// Compile the program of a file for a machine, into a file.
     Compile {
@@ -66,16 +83,37 @@ pub enum Command<'a> {
         /// The name of the file that is written.
         out: &'a str,
     },
+    /// List the blocks of the program of a file, as they are compiled for a machine.
+    Show {
+        /// The name of the source's file.
+        program: &'a str,
+        /// The machine that it is compiled for.
+        machine: MachineWord<'a>,
+    },
     /// Run the image of a file.
     Run {
         /// The name of the image's file.
         image: &'a str,
         /// How it is run.
-        run: RunWords,
+        run: RunWords<'a>,
+    },
+    /// Tell the events of the run of the image of a file.
+    Trace {
+        /// The name of the image's file.
+        image: &'a str,
+        /// How it is run.
+        run: RunWords<'a>,
     },
     /// Count what the image of a file has.
     Check {
         /// The name of the image's file.
         image: &'a str,
+    },
+    /// Make a program from a number, compile it, evaluate it, and run it on both units.
+    Soak {
+        /// The number that it is made from.
+        seed: u64,
+        /// How many items its body has, at most 10,000.
+        statements: u32,
     },
 }

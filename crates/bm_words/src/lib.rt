@@ -4,8 +4,10 @@
 #![tactic(auto)]
 
 mod command;
+mod laws;
 mod rows;
 mod words;
 
-pub use command::{Command, MachineWord, RunWords, ScriptWord, UnitWord};
+pub use command::{Command, DataWord, MachineWord, RunWords, ScriptWord, UnitWord};
+pub use laws::requests_are_in_range;
 pub use rows::match_words;

@@ -1,10 +1,11 @@
 // Single words.
 ghost use Rattle.std.specs.Prelude.{◌≡◌, ◌≤◌, IfSome};
 ghost use Rattle.std.specs.Option.{option_map};
-ghost use Rattle.bm_words.specs.Table.{name_of, file_of, number_of_word, machine_of, unit_of, script_of, data_of};
-ghost use Rattle.bm_words.specs.Seen.{seen_name, seen_machine, seen_unit, seen_script};
+ghost use Rattle.bm_words.specs.Table.{name_of, file_of, number_of_word, seed_of, machine_of, unit_of};
+ghost use Rattle.bm_words.specs.Table.{further_script_of, script_of, data_of};
+ghost use Rattle.bm_words.specs.Seen.{seen_name, seen_machine, seen_unit, seen_script, seen_data};
 
-use crate::{MachineWord, ScriptWord, UnitWord};
+use crate::{DataWord, MachineWord, ScriptWord, UnitWord};
 use bm_base::count;
 
 const MOST_DIGITS: usize = 20;
@@ -66,9 +67,29 @@ pub(crate) fn unit_word(word: &str) -> Option<UnitWord>
     None
 }
 
+/// The number behind `seed:`.
+#[tactic(auto, unfolding(crate::specs::Table::seed_of))]
+fn seed_word(word: &str) -> Option<u64>
+    ensures { result ≡ seed_of word.now }
+{
+    number_word(u64::MAX, word.strip_prefix("seed:")?)
+}
+
+/// A script that is no rule by itself: a seed, or a file.
+#[tactic(auto, unfolding(crate::specs::Table::further_script_of))]
+fn further_script_word(word: &str) -> Option<ScriptWord<'_>>
+    ensures { option_map seen_script result ≡ further_script_of word.now }
+{
+    if let Some(n) = seed_word(word) {
+        return Some(ScriptWord::Seed { n });
+    }
+    let name = file_word(word)?;
+    Some(ScriptWord::File { name })
+}
+
 /// A script.
 #[tactic(auto, unfolding(crate::specs::Table::script_of))]
-pub(crate) fn script_word(word: &str) -> Option<ScriptWord>
+pub(crate) fn script_word(word: &str) -> Option<ScriptWord<'_>>
     ensures { option_map seen_script result ≡ script_of word.now }
 {
     if word == "least" {
@@ -77,13 +98,17 @@ pub(crate) fn script_word(word: &str) -> Option<ScriptWord>
     if word == "most" {
         return Some(ScriptWord::Most);
     }
-    None
+    further_script_word(word)
 }
 
-/// Data: none is given.
+/// Data.
 #[tactic(auto, unfolding(crate::specs::Table::data_of))]
-pub(crate) fn data_word(word: &str) -> Option<()>
-    ensures { result ≡ data_of word.now }
+pub(crate) fn data_word(word: &str) -> Option<DataWord<'_>>
+    ensures { option_map seen_data result ≡ data_of word.now }
 {
-    if word == "none" { Some(()) } else { None }
+    if word == "none" {
+        return Some(DataWord::Declared);
+    }
+    let name = file_word(word)?;
+    Some(DataWord::File { name })
 }

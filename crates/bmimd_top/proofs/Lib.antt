@@ -1,5 +1,9 @@
+pub mod Listed
+pub mod Begun
+pub mod Sourced
 pub mod Rows
 pub mod Settled
 pub mod Leads
 pub mod Given
+pub mod Readings
 pub mod Headline

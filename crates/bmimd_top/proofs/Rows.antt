@@ -1,9 +1,10 @@
 -- What may be said of the course of each row: its refusals and outputs have their statuses.
-use Rattle.std.proofs.Common.{◌≡◌, ℕ, List, Option, Some, None, refl, sym, ap, subst, ◌∙◌, inl, inr}
-use Rattle.bm_words.specs.Table.{Request, MachineOf, RunWordsOf, EvalOf, GoOf, CompileOf, RunOf, CheckOf}
+use Rattle.std.proofs.Common.{◌≡◌, ℕ, Bool, true, false, List, Option, Some, None, if◌then◌else◌, refl, sym, ap, subst, ◌∙◌, inl, inr}
+use Rattle.bm_words.specs.Table.{Request, MachineOf, DataOf, RunWordsOf, EvalOf, GoOf, CompileOf, ShowOf, RunOf, TraceOf, CheckOf, SoakOf}
 use Rattle.bm_course.specs.Status.{OfWords, IsOfContent, IsRefusal, HasEnded, kind_of}
 use Rattle.bm_course.specs.Course.{Refused, Product, text_only, Course, ◌>>=◌, give, refuse, judge}
 use Rattle.bm_course.specs.Lines.{usage}
+use Rattle.bm_course.specs.declared.status.TheConstants.{ENDED, GOING}
 use Rattle.bm_course.specs.Laws.{IsDetermined, Bounds}
 use Rattle.bm_course.specs.Seen.{Seen}
 use Rattle.bm_course.specs.Goes.{Goes}
@@ -19,15 +20,22 @@ use Rattle.run_text.specs.RunText.{run_status}
 use Rattle.bm_inputs.specs.Sources.{source_course}
 use Rattle.bm_inputs.specs.Machines.{machine_course}
 use Rattle.bm_inputs.proofs.Courses.{refusal, source-bounds, machine-bounds}
-use Rattle.unit_law.specs.State.{Program}
 use Rattle.stream_image.specs.Image.{IsImage}
 use Rattle.image_inputs.specs.Images.{loaded_course}
 use Rattle.image_inputs.proofs.Courses.{loaded-bounds}
 use Rattle.eval_text.specs.EvalText.{eval_text, end_status}
-use Rattle.bmimd_top.specs.Running.{Compiles, Runs, image_course, counts_text}
+use Rattle.bmimd_top.specs.Running.{Runs, Traces, sourced_course, counts_text}
+use Rattle.bmimd_top.specs.Listing.{Lists, listed_course, text_of}
 use Rattle.bmimd_top.specs.Compiling.{Makes, made_course, product_of}
-use Rattle.bmimd_top.specs.Command.{eval_course, go_course, compile_course, run_course, check_course, course_by}
+use Rattle.bmimd_top.specs.Command.{eval_course, go_course, compile_course, show_course, run_course, trace_course, check_course, course_by}
+use Rattle.bmimd_top.specs.Evaluating.{ready_course, evaluated}
+use Rattle.run_inputs.specs.Memories.{memory_course}
+use Rattle.run_inputs.specs.Beginning.{Beginning, begun_course}
+use Rattle.run_inputs.proofs.Memories.{memory-bounds}
+use Rattle.run_inputs.proofs.Beginnings.{begun-bounds}
+use Rattle.soak_text.specs.SoakCourse.{Soaks, soak_course}
 use Rattle.bmimd_top.specs.Clauses.{IsUsage}
+use Rattle.bmimd_top.proofs.Sourced.{sourced-bounds}
 
 abbrev ended : Product → Type 0
 ended p = HasEnded p.text.status
@@ -37,25 +45,28 @@ end_ended Done = refl
 end_ended More = refl
 
 -- `eval`
-eval-bounds : (name : List ℕ) (turns : ℕ) → Bounds refusal ended (eval_course name turns)
-eval-bounds name turns = then-bounds refusal (λ p. Unit {0}) ended (source_course name) (λ p. give (text_only (eval_text p turns))) (source-bounds name) (λ p t. give-bounds refusal ended (text_only (eval_text p turns)) (end_ended _))
+ready-bounds : (name : List ℕ) (given : DataOf) → Bounds refusal (λ e. Unit {0}) (ready_course name given)
+ready-bounds name given =
+    then-bounds refusal (λ p. Unit {0}) (λ e. Unit {0}) (source_course name) (λ p. memory_course p.names given >>= (λ memory. give (evaluated p memory))) (source-bounds name)
+    (λ p t. then-bounds refusal (λ m. Unit {0}) (λ e. Unit {0}) (memory_course p.names given) (λ memory. give (evaluated p memory)) (memory-bounds p.names given)
+    (λ memory u. give-bounds refusal (λ e. Unit {0}) (evaluated p memory) tt))
+
+eval-bounds : (name : List ℕ) (given : DataOf) (turns : ℕ) → Bounds refusal ended (eval_course name given turns)
+eval-bounds name given turns =
+    then-bounds refusal (λ e. Unit {0}) ended (ready_course name given) (λ e. give (text_only (eval_text e.program e.memory turns))) (ready-bounds name given)
+    (λ e t. give-bounds refusal ended (text_only (eval_text e.program e.memory turns)) (end_ended _))
 
 -- `go`
-image-bounds : (name : List ℕ) (machine : MachineOf) → Bounds refusal (λ m. Unit {0}) (image_course name machine)
-image-bounds name machine =
-    then-bounds refusal (λ p. Unit {0}) (λ m. Unit {0}) (source_course name) (λ p. machine_course machine >>= (λ spec. judge (Compiles spec p))) (source-bounds name)
-    (λ p t. then-bounds refusal (λ m. Unit {0}) (λ m. Unit {0}) (machine_course machine) (λ spec. judge (Compiles spec p)) (machine-bounds machine)
-    (λ spec u. judge-bounds refusal (λ m. Unit {0}) (Compiles spec p) (λ m h. tt) (λ r h. absurd h)))
-
 run_ended : (e : Option End) → HasEnded (run_status e)
 run_ended (Some e) = refl
 run_ended None = refl
 
-text-bounds : (image : Program) (run : RunWordsOf) → Bounds refusal ended (judge (Runs image run))
-text-bounds image run = judge-bounds refusal ended (Runs image run) (λ p h. subst ended (sym h.2) (subst (λ t. HasEnded t.status) (sym h.1.text_is) (run_ended h.1.end))) (λ r h. absurd h)
+text-bounds : (run : RunWordsOf) (b : Beginning) → Bounds refusal ended (judge (Runs run b))
+text-bounds run b = judge-bounds refusal ended (Runs run b) (λ p h. subst ended (sym h.2) (subst (λ t. HasEnded t.status) (sym h.1.text_is) (run_ended h.1.end))) (λ r h. absurd h)
 
 go-bounds : (name : List ℕ) (machine : MachineOf) (run : RunWordsOf) → Bounds refusal ended (go_course name machine run)
-go-bounds name machine run = then-bounds refusal (λ m. Unit {0}) ended (image_course name machine) (λ image. judge (Runs image run)) (image-bounds name machine) (λ image t. text-bounds image run)
+go-bounds name machine run =
+    then-bounds refusal (λ b. Unit {0}) ended (sourced_course name machine run) (λ b. judge (Runs run b)) (sourced-bounds name machine run) (λ b t. text-bounds run b)
 
 -- `compile`
 made-bounds : (name : List ℕ) (machine : MachineOf) → Bounds refusal (λ m. Unit {0}) (made_course name machine)
@@ -68,13 +79,40 @@ compile-bounds : (name : List ℕ) (machine : MachineOf) (out : List ℕ) → Bo
 compile-bounds name machine out =
     then-bounds refusal (λ m. Unit {0}) ended (made_course name machine) (λ made. give (product_of out made)) (made-bounds name machine) (λ made t. give-bounds refusal ended (product_of out made) refl)
 
+-- `show`
+listed-bounds : (name : List ℕ) (machine : MachineOf) → Bounds refusal (λ l. Unit {0}) (listed_course name machine)
+listed-bounds name machine =
+    then-bounds refusal (λ p. Unit {0}) (λ l. Unit {0}) (source_course name) (λ p. machine_course machine >>= (λ spec. judge (Lists spec p))) (source-bounds name)
+    (λ p t. then-bounds refusal (λ m. Unit {0}) (λ l. Unit {0}) (machine_course machine) (λ spec. judge (Lists spec p)) (machine-bounds machine)
+    (λ spec u. judge-bounds refusal (λ l. Unit {0}) (Lists spec p) (λ l h. tt) (λ r h. absurd h)))
+
+show-bounds : (name : List ℕ) (machine : MachineOf) → Bounds refusal ended (show_course name machine)
+show-bounds name machine =
+    then-bounds refusal (λ l. Unit {0}) ended (listed_course name machine) (λ l. give (text_only (text_of l.shown l.summary))) (listed-bounds name machine) (λ l t. give-bounds refusal ended (text_only (text_of l.shown l.summary)) refl)
+
 -- `run`
 run-bounds : (name : List ℕ) (run : RunWordsOf) → Bounds refusal ended (run_course name run)
-run-bounds name run = then-bounds refusal IsImage ended (loaded_course name) (λ image. judge (Runs image run)) (loaded-bounds name) (λ image t. text-bounds image run)
+run-bounds name run =
+    then-bounds refusal (λ b. Unit {0}) ended (begun_course (loaded_course name) run) (λ b. judge (Runs run b)) (begun-bounds run (loaded_course name) IsImage (loaded-bounds name)) (λ b t. text-bounds run b)
+
+-- `trace`
+trace-bounds : (name : List ℕ) (run : RunWordsOf) → Bounds refusal ended (trace_course name run)
+trace-bounds name run =
+    then-bounds refusal (λ b. Unit {0}) ended (begun_course (loaded_course name) run) (λ b. judge (Traces run b)) (begun-bounds run (loaded_course name) IsImage (loaded-bounds name))
+    (λ b t. judge-bounds refusal ended (Traces run b) (λ p h. subst ended (sym h.2) (subst (λ t. HasEnded t.status) (sym h.1.text_is) (run_ended h.1.end))) (λ r h. absurd h))
 
 -- `check`
 check-bounds : (name : List ℕ) → Bounds refusal ended (check_course name)
 check-bounds name = then-bounds refusal IsImage ended (loaded_course name) (λ image. give (text_only (counts_text image))) (loaded-bounds name) (λ image t. give-bounds refusal ended (text_only (counts_text image)) refl)
+
+-- `soak`
+soak_ended : (going : Bool) → HasEnded (if going then GOING else ENDED)
+soak_ended true = refl
+soak_ended false = refl
+
+soak-bounds : (seed statements : ℕ) → Bounds refusal ended (soak_course seed statements)
+soak-bounds seed statements =
+    judge-bounds refusal ended (Soaks seed statements) (λ p h. subst ended (sym h.2) (subst (λ t. HasEnded t.status) (sym h.1.text_is) (soak_ended _))) (λ r h. absurd h)
 
 -- refusals of words too
 abbrev refusals : Refused → Type 0
@@ -89,11 +127,14 @@ all course b = wider-bounds refusal refusals ended course (λ r h. inr h) b
 -- each row
 row-bounds : (q : Option Request) → Bounds refusals ended (course_by q)
 row-bounds None = usage-bounds
-row-bounds (Some (EvalOf name turns)) = all (eval_course name turns) (eval-bounds name turns)
+row-bounds (Some (EvalOf name given turns)) = all (eval_course name given turns) (eval-bounds name given turns)
 row-bounds (Some (GoOf name machine run)) = all (go_course name machine run) (go-bounds name machine run)
 row-bounds (Some (CompileOf name machine out)) = all (compile_course name machine out) (compile-bounds name machine out)
+row-bounds (Some (ShowOf name machine)) = all (show_course name machine) (show-bounds name machine)
 row-bounds (Some (RunOf name run)) = all (run_course name run) (run-bounds name run)
+row-bounds (Some (TraceOf name run)) = all (trace_course name run) (trace-bounds name run)
 row-bounds (Some (CheckOf name)) = all (check_course name) (check-bounds name)
+row-bounds (Some (SoakOf seed statements)) = all (soak_course seed statements) (soak-bounds seed statements)
 
 module _ (before now : Seen) (status : ℕ) where
   pub row-answers : (q : Option Request) → IsDetermined (course_by q) → Goes before now (course_by q) status → Answers before now (course_by q) status
@@ -112,11 +153,14 @@ module _ (before now : Seen) (status : ℕ) where
 
   pub usage_only : (q : Option Request) → Goes before now (course_by q) status → status ≡ 1 → q ≡ None
   usage_only None g e = refl
-  usage_only (Some (EvalOf name turns)) g e = absurd (not_usage (eval_course name turns) (eval-bounds name turns) g e)
+  usage_only (Some (EvalOf name given turns)) g e = absurd (not_usage (eval_course name given turns) (eval-bounds name given turns) g e)
   usage_only (Some (GoOf name machine run)) g e = absurd (not_usage (go_course name machine run) (go-bounds name machine run) g e)
   usage_only (Some (CompileOf name machine out)) g e = absurd (not_usage (compile_course name machine out) (compile-bounds name machine out) g e)
+  usage_only (Some (ShowOf name machine)) g e = absurd (not_usage (show_course name machine) (show-bounds name machine) g e)
   usage_only (Some (RunOf name run)) g e = absurd (not_usage (run_course name run) (run-bounds name run) g e)
+  usage_only (Some (TraceOf name run)) g e = absurd (not_usage (trace_course name run) (trace-bounds name run) g e)
   usage_only (Some (CheckOf name)) g e = absurd (not_usage (check_course name) (check-bounds name) g e)
+  usage_only (Some (SoakOf seed statements)) g e = absurd (not_usage (soak_course seed statements) (soak-bounds seed statements) g e)
 
   pub usage_else : (q : Option Request) → Goes before now (course_by q) status → q ≡ None → IsUsage before now status
   usage_else q g e = refused_at_once before now usage status (subst (λ r. Goes before now (course_by r) status) e g)

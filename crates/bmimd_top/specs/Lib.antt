@@ -1,6 +1,9 @@
 pub mod Running
 pub mod Compiling
+pub mod Listing
+pub mod Evaluating
 pub mod Command
+pub mod OneStep
 pub mod Clauses
 pub mod Enough
 pub mod Headline

@@ -46,7 +46,7 @@ fn compiled_text<'a, F: Files>(
 }
 
 /// A line of a summary.
-fn line_of(summary: &Summary, row: u8) -> Piece
+pub(crate) fn line_of(summary: &Summary, row: u8) -> Piece
     requires { row < 5 }
     ensures { slice_get (summary_lines summary.now) row ≡ Some result }
 {

@@ -2,39 +2,66 @@
 
 ghost use Rattle.std.specs.Prelude.{ℕ, List};
 ghost use Rattle.bm_io.specs.Files.{Held};
-ghost use Rattle.bm_course.specs.Laws.{HasEnd, IsDetermined};
+ghost use Rattle.bm_course.specs.Laws.{HasEnd};
+ghost use Rattle.bmimd_top.specs.OneStep.{CoursesHaveOneStep, LawsOfReadings};
 ghost use Rattle.bmimd_top.specs.Command.{course_of};
 ghost use Rattle.bmimd_top.specs.Enough.{EnoughTicksEndRuns};
 
-use bm_base::laws_of_memories;
 use bm_inputs::{inputs_are_right, inputs_have_one_step, inputs_settle};
+use bm_words::requests_are_in_range;
 use compiled_image::{programs_have_images, programs_have_summaries};
 use image_inputs::{images_have_one_step, images_settle, loaded_images_are_images};
+use run_inputs::{beginnings_have_one_step, beginnings_settle, memories_are_right};
 use run_text::{bounded_runs_end, runs_have_one_text, runs_have_some_text};
+use show_text::{programs_are_shown, programs_are_shown_once};
+use soak_text::soaks_settle;
+use trace_text::kinds_have_one_trace;
 
-/// After the same contents, what words ask for comes to at most one step.
+/// After the same contents, what words ask for comes to at most one step, and so do its parts.
 pub fn words_have_one_step()
-    ensures { (words : List (List ℕ)) → IsDetermined (course_of words) }
+    ensures { CoursesHaveOneStep }
 {
     inputs_have_one_step();
     inputs_are_right();
     images_have_one_step();
+    loaded_images_are_images();
+    beginnings_have_one_step();
     programs_have_images();
     programs_have_summaries();
+    programs_are_shown_once();
     runs_have_one_text();
+    kinds_have_one_trace();
+    soaks_settle();
+}
+
+/// What commands read comes to at most one step, and what is given of it is right.
+pub(crate) fn laws_of_readings()
+    ensures { LawsOfReadings }
+{
+    words_have_one_step();
+    inputs_have_one_step();
+    inputs_are_right();
+    images_have_one_step();
+    beginnings_have_one_step();
+    memories_are_right();
 }
 
 /// Whatever the held files hold, they lead what words ask for to a refusal or an output.
 pub fn words_have_an_end()
     ensures { (words : List (List ℕ)) (held : Held) → HasEnd held (course_of words) }
 {
+    requests_are_in_range();
     inputs_settle();
     inputs_are_right();
     images_settle();
-    loaded_images_are_images();
+    beginnings_settle();
+    memories_are_right();
     programs_have_images();
     programs_have_summaries();
+    programs_are_shown();
     runs_have_some_text();
+    kinds_have_one_trace();
+    soaks_settle();
 }
 
 /// Where the source is done within n turns, a budget of n + 1 passes over the blocks shows the end:
@@ -42,7 +69,6 @@ pub fn words_have_an_end()
 pub fn enough_ticks_end_a_run()
     ensures { EnoughTicksEndRuns }
 {
-    laws_of_memories();
     programs_have_images();
     bounded_runs_end();
 }

@@ -586,6 +586,7 @@ fn an_image_is_compiled_checked_and_run(rt: HostRuntime) -> Result<(), Fail> {
     let mut files = MemFiles::new(alloc);
     files.hold("p", SUM.as_bytes())?;
     files.hold("q", b"print ;")?;
+    files.hold("d", b"b 5\na 4\n")?;
     for (texts, status, text, refusal) in [
         (
             ["compile", "p", "default", "i"].as_slice(),
@@ -614,6 +615,36 @@ fn an_image_is_compiled_checked_and_run(rt: HostRuntime) -> Result<(), Fail> {
         ),
         (["check", "p"].as_slice(), 5, "", "error 28: image line 1\n"),
         (
+            ["run", "i", "sbm", "least", "file:d", "5"].as_slice(),
+            0,
+            "9\nend 5\na 4\nb 5\nc 9\n",
+            "",
+        ),
+        (
+            ["eval", "p", "file:d", "0"].as_slice(),
+            0,
+            "9\ndone\na 4\nb 5\nc 9\n",
+            "",
+        ),
+        (
+            ["run", "i", "sbm", "file:p", "file:p", "5"].as_slice(),
+            6,
+            "",
+            "error 29: script line 1\n",
+        ),
+        (
+            ["trace", "i", "dbm", "file:d", "file:p", "5"].as_slice(),
+            6,
+            "",
+            "error 29: script line 1\n",
+        ),
+        (
+            ["trace", "i", "dbm", "seed:7", "file:p", "5"].as_slice(),
+            7,
+            "",
+            "error 30: data line 1\n",
+        ),
+        (
             ["compile", "q", "default", "p"].as_slice(),
             2,
             "",
@@ -628,7 +659,7 @@ fn an_image_is_compiled_checked_and_run(rt: HostRuntime) -> Result<(), Fail> {
         assert_eq!(rt; err.taken(), refusal.as_bytes());
     }
     // A failed write of the file leaves it as it was, and nothing is printed.
-    files.fail(9)?;
+    files.fail(19)?;
     let mut out = MemSink::new(alloc);
     let mut err = MemSink::new(alloc);
     let texts = ["compile", "p", "default", "p"];
@@ -637,5 +668,27 @@ fn an_image_is_compiled_checked_and_run(rt: HostRuntime) -> Result<(), Fail> {
     assert_eq!(rt; out.writes(), 0);
     assert_eq!(rt; err.taken(), b"error: cannot write p\n".as_slice());
     assert_eq!(rt; files.held("p"), Some(SUM.as_bytes()));
+    Ok(())
+}
+
+/// The soak of three items from the number 1, as an independent reading of the definitions has it.
+const SOAK: &str =
+    "blocks 1\ntuples 26\npairs 25 processor 13 barrier 9 time 3\nmasks inserted 6 kept 5\n\
+     estimate 19 work 63 longest 16\n\
+     source done prints 1 fold 1\nsbm least end 12 prints 1 fold 1\n\
+     sbm most end 23 prints 1 fold 1\nsbm seed end 20 prints 1 fold 1\n\
+     dbm least end 12 prints 1 fold 1\ndbm most end 23 prints 1 fold 1\n\
+     dbm seed end 20 prints 1 fold 1\n";
+
+#[test]
+fn a_program_is_made_from_a_number_and_soaked(rt: HostRuntime) -> Result<(), Fail> {
+    let alloc = rt.alloc();
+    let mut files = MemFiles::new(alloc);
+    let mut out = MemSink::new(alloc);
+    let mut err = MemSink::new(alloc);
+    let code = called(alloc, &["soak", "1", "3"], &mut files, &mut out, &mut err)?;
+    assert_eq!(rt; code, 0);
+    assert_eq!(rt; out.taken(), SOAK.as_bytes());
+    assert_eq!(rt; err.taken(), b"".as_slice());
     Ok(())
 }

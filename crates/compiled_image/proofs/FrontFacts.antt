@@ -21,21 +21,6 @@ use Rattle.time_interval.proofs.Once.{stand_once}
 use Rattle.time_interval.proofs.SetFacts.{seen_none, put_at, run_seen}
 use Rattle.compiled_image.specs.Fronts.{IsFrontOf}
 
--- ---- the union of the members' sets
-pub union_yes : (m : ℕ) (sets : List ℕ) (n k u : ℕ) → n + 1 ≡ k → has_bit m n ≡ true → ((g : ℕ) → has_bit u g ≡ seen_of_members n m (seen_by sets) g) → (g : ℕ) → has_bit (bit_or u (set_at sets n)) g ≡ seen_of_members k m (seen_by sets) g
-union_yes m sets n k u e h s g =
-    let on : suc n ≡ k = omega arith in
-    has_bit-or u (set_at sets n) g ∙ ap₂ (λ x y. x || (y && seen_by sets n g)) (s g) (sym h) ∙ ap (λ j. seen_of_members j m (seen_by sets) g) on
-
-pub union_no : (m : ℕ) (sets : List ℕ) (n k u : ℕ) → n + 1 ≡ k → has_bit m n ≡ false → ((g : ℕ) → has_bit u g ≡ seen_of_members n m (seen_by sets) g) → (g : ℕ) → has_bit u g ≡ seen_of_members k m (seen_by sets) g
-union_no m sets n k u e h s g =
-    let on : suc n ≡ k = omega arith in
-    s g ∙ or_false (seen_of_members n m (seen_by sets) g) ∙ ap (λ y. seen_of_members n m (seen_by sets) g || (y && seen_by sets n g)) (sym h) ∙ ap (λ j. seen_of_members j m (seen_by sets) g) on
-  where
-    or_false : (b : Bool) → b ≡ (b || false)
-    or_false true = refl
-    or_false false = refl
-
 -- ---- one item more
 seen_run : (n : ℕ) (s : ℕ → ℕ → Bool) (xs : List Item) (q t : ℕ) → seen_along n s (xs ++ Run q t ∷ []) ≡ past_run_seen q t (seen_along n s xs)
 seen_run n s [] q t = refl

@@ -1,6 +1,7 @@
 -- Of private functions: counts of pairs by their reasons, and what a block adds to a summary.
 use Rattle.std.specs.Prelude.{◌≡◌, ℕ, ◌+◌, ◌*◌, ◌≤◌, List, length, map}
 use Rattle.std.specs.List.{count_by}
+use Rattle.bm_base.specs.declared.limits.TheConstants.{MOST_MASKS}
 use Rattle.bm_base.specs.Entry.{Entry}
 use Rattle.bm_base.specs.Machine.{Machine}
 use Rattle.tuple_ir.specs.declared.tuple.Tuple.{Tuple}
@@ -45,7 +46,7 @@ pub record Comes (machine : Machine) (ts : List Tuple) (plan : Plan) (t : Tally)
   pub told : IsTold machine ts (record { plan = plan; reasons = reasons })
   pub counts : t ≡ tally_of reasons
   pub in_order : IsInOrder machine ts plan.line.items
-  pub inserted : length (masks plan.inserted.items) ≤ 128
+  pub inserted : length (masks plan.inserted.items) ≤ MOST_MASKS
 
 -- one block more
 abbrev pub with_block : Summary → List Tuple → Plan → Tally → Summary

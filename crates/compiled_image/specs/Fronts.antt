@@ -1,5 +1,6 @@
 -- Of private functions: what stands in front of each tuple of a line, in sets of bits.
 use Rattle.std.specs.Prelude.{◌≡◌, ℕ, true, false, Bool, List, All}
+use Rattle.bm_base.specs.declared.limits.TheConstants.{MOST_TUPLES}
 use Rattle.bm_base.specs.Mask.{has_bit}
 use Rattle.line_model.specs.declared.line.Item.{Item}
 use Rattle.time_interval.specs.declared.reference.Reference.{Reference}
@@ -15,7 +16,7 @@ pub record IsFrontOf (processors : ℕ) (line : List Item) (t on seen : ℕ) : T
   pub front : List Item
   pub p : ℕ
   pub behind : StandsBehind line front p t
-  pub items : All (IsItem 128 processors) front
+  pub items : All (IsItem MOST_TUPLES processors) front
   pub on_is : (g : ℕ) → has_bit on g ≡ stands_on front p g
   pub seen_is : (g : ℕ) → has_bit seen g ≡ seen_along processors (λ p g. false) front p g
 

@@ -9,7 +9,7 @@ ghost use Rattle.compiled_image.specs.Counts.{Comes, IsMade};
 use crate::counting::{of_no_blocks, with_block};
 use crate::pairs::{Tally, count_pairs};
 use block_plan::{Plan, plan};
-use bm_base::Spec;
+use bm_base::{MOST_TUPLES, Spec};
 use bm_report::Summary;
 use src_names::Resolved;
 use std::alloc::{AllocError, Global};
@@ -35,7 +35,7 @@ struct PlannedBlock {
 
 /// The plan of a block and the counts of its conflicting pairs. It fails only where memory runs out.
 fn planned(alloc: Global, block: &Block, spec: &Spec) -> Result<PlannedBlock, AllocError>
-    requires { length block.now.tuples ≤ 128 }
+    requires { length block.now.tuples ≤ MOST_TUPLES }
     ensures { IfOk result (λ p. Comes spec.now block.now.tuples p.plan p.tally) }
 {
     let _processors = spec.processors();

@@ -6,6 +6,7 @@ ghost use Rattle.compiled_image.specs.Counts.{AreUpTo, HasRoom, with_block};
 
 use crate::pairs::Tally;
 use block_plan::Plan;
+use bm_base::{MOST_MASKS, MOST_TUPLES};
 use bm_report::Summary;
 use line_model::{Item, Line};
 use tuple_ir::Block;
@@ -32,7 +33,7 @@ pub(crate) fn of_no_blocks() -> Summary
 
 /// How many barriers a line has, of at most 128.
 fn bars(line: &Line) -> u32
-    requires { length (masks line.now.items) ≤ 128 }
+    requires { length (masks line.now.items) ≤ MOST_MASKS }
     ensures { result ≡ length (masks line.now.items) }
 {
     let mut bars = 0;
@@ -48,9 +49,9 @@ fn bars(line: &Line) -> u32
 pub(crate) fn with_block(summary: &Summary, block: &Block, plan: &Plan, tally: Tally) -> Summary
     requires blocks { summary.now.blocks < 2 ^ 32 - 1 }
     requires room { HasRoom summary.now }
-    requires tuples { length block.now.tuples ≤ 128 }
-    requires inserted { length (masks plan.now.inserted.items) ≤ 128 }
-    requires kept { length (masks plan.now.line.items) ≤ 128 }
+    requires tuples { length block.now.tuples ≤ MOST_TUPLES }
+    requires inserted { length (masks plan.now.inserted.items) ≤ MOST_MASKS }
+    requires kept { length (masks plan.now.line.items) ≤ MOST_MASKS }
     ensures summary { result ≡ with_block summary.now block.now.tuples plan.now tally }
     ensures room { HasRoom result }
 {

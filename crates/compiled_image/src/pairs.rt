@@ -9,11 +9,12 @@ ghost use Rattle.compiled_image.specs.Fronts.{IsFrontOf, IsKind};
 ghost use Rattle.compiled_image.specs.Reasons.{Pair, pair, pairs_of};
 ghost use Rattle.compiled_image.specs.Counts.{tally_of, AreUpTo, IsTallyOf};
 
-use crate::fronts::{fronts_in, has};
-use bm_base::Spec;
+use crate::fronts::fronts_in;
+use bm_base::{MOST_TUPLES, Spec};
 use dependence::conflicts;
 use line_model::Line;
 use std::alloc::{AllocError, Global};
+use time_interval::seen::has;
 use tuple_ir::Block;
 
 /// How many conflicting pairs of a block there are, and how many of them are in order for each reason.
@@ -60,14 +61,14 @@ impl Tally {
 /// Counts the pairs of tuple b with its producers, by the sets of what stands in front of it. A producer
 /// that is in neither of them is ordered before it by time.
 fn add_row(tally: &mut Tally, on: u128, seen: u128, producers: &[u8], b: u8)
-    requires tuple { b < 128 }
-    requires below { All (λ a. a < 128) producers.now }
-    requires few { length producers.now ≤ 128 }
-    requires room { AreUpTo (128 * b) tally.old }
+    requires tuple { b < MOST_TUPLES }
+    requires below { All (λ a. a < MOST_TUPLES) producers.now }
+    requires few { length producers.now ≤ MOST_TUPLES }
+    requires room { AreUpTo (MOST_TUPLES * b) tally.old }
     ensures tally { (pace : Pace) (line : List Item) (pairs : List Pair) → IsFrontOf pace.processors line b on seen
         → All (λ a. IsOrdered pace line a b) producers.now
         → IsTallyOf pace line pairs tally.old → IsTallyOf pace line (pairs ++ map (pair b) producers.now) tally.new }
-    ensures room { AreUpTo (128 * (b + 1)) tally.new }
+    ensures room { AreUpTo (MOST_TUPLES * (b + 1)) tally.new }
 {
     for a in producers {
         tally.add(has(on, *a), has(seen, *a));
@@ -82,7 +83,7 @@ pub(crate) fn count_pairs(
     line: &Line,
     spec: &Spec,
 ) -> Result<Tally, AllocError>
-    requires few { length block.now.tuples ≤ 128 }
+    requires few { length block.now.tuples ≤ MOST_TUPLES }
     requires in_order { IsInOrder spec.now block.now.tuples line.now.items }
     ensures { IfOk result (λ t. IsTallyOf (pace_on spec.now block.now.tuples) line.now.items (pairs_of block.now.tuples) t) }
 {

@@ -1,9 +1,10 @@
 -- What a row gives is what is read of it.
 use Rattle.std.proofs.Common.{◌≡◌, ℕ, ◌≤◌, refl, sym, ap, subst, ◌∙◌, arith, Bool, true, false, List, [], ◌∷◌, ◌++◌, length, map, Option, Some, None, ℤ, cond, append_assoc, append-nil}
 use Rattle.std.specs.Option.{option_and_then}
+use Rattle.bm_base.specs.Names.{has_name_form}
 use Rattle.bm_base.specs.Numeral.{number_of}
 use Rattle.bm_base.proofs.StrictTexts.{none_some, some_same}
-use Rattle.data_file.specs.Data.{Gift, Gives, has_name_form}
+use Rattle.data_file.specs.Data.{Gift, Gives}
 use Rattle.data_file.specs.Reading.{gathered, gift_by, gift_of}
 
 -- what follows a value that is there

@@ -1,22 +1,16 @@
 -- The text of data: a row for a name, the name and then its values.
-use Rattle.std.specs.Prelude.{ℕ, ◌≡◌, ◌≤◌, ◌<◌, ◌&&◌, Bool, true, false, if◌then◌else◌, List, [], ◌∷◌, ◌++◌, length, map, drop}
+use Rattle.std.specs.Prelude.{ℕ, ◌≡◌, ◌≤◌, ◌<◌, Bool, true, false, if◌then◌else◌, List, [], ◌∷◌, ◌++◌, length, map, drop}
 use Rattle.std.specs.Prelude.{slice_get, Option, Some, None, ℤ}
-use Rattle.std.specs.List.{list_all}
 use Rattle.std.specs.Str.{bytes_eq}
 use Rattle.bm_base.specs.Entry.{Entry}
 use Rattle.bm_base.specs.declared.names.Kind.{Kind}
 use Rattle.bm_base.specs.declared.names.Kind.TheVariants.{Var, Array}
 use Rattle.bm_base.specs.Memory.{Content, Word, Words, declared_content}
-use Rattle.bm_base.specs.Names.{begins_name, goes_on_name, place_of}
+use Rattle.bm_base.specs.Names.{has_name_form, place_of}
 use Rattle.bm_base.specs.Numeral.{number_of}
 use Rattle.field_rows.specs.Rows.{TextRow, rows_of}
 use Rattle.data_file.specs.declared.fault.DataFault.{DataFault}
 use Rattle.data_file.specs.declared.fault.DataFault.TheVariants.{DataText, DataName, DataTwice, DataCount, Memory}
-
--- a letter or `_`, and then letters, `_` and digits
-abbrev pub has_name_form : List ℕ → Bool
-has_name_form [] = false
-has_name_form (b ∷ bs) = begins_name b && list_all goes_on_name bs
 
 -- values that are given to a name
 pub record Gift : Type 0 where

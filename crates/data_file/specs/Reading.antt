@@ -6,14 +6,14 @@ use Rattle.bm_base.specs.Entry.{Entry}
 use Rattle.bm_base.specs.Memory.{Content, Word, Words, initial}
 use Rattle.bm_base.specs.Memories.{IsOfKind}
 use Rattle.bm_base.specs.declared.names.Kind.{Kind}
-use Rattle.bm_base.specs.Names.{place_of}
+use Rattle.bm_base.specs.Names.{has_name_form, place_of}
 use Rattle.bm_base.specs.Numeral.{number_of}
 use Rattle.field_rows.specs.Rows.{TextRow, rows_of}
 use Rattle.data_file.specs.declared.fault.DataFault.{DataFault}
 use Rattle.data_file.specs.declared.fault.DataFault.TheVariants.{DataText, DataName, DataTwice, DataCount, Memory}
 use Rattle.data_file.specs.declared.fault.RowFault.{RowFault}
 use Rattle.data_file.specs.declared.fault.RowFault.TheVariants as row
-use Rattle.data_file.specs.Data.{Gift, has_name_form, room_of, laid}
+use Rattle.data_file.specs.Data.{Gift, room_of, laid}
 
 -- the values of further fields behind these
 abbrev pub gathered : List ℤ → List (List ℕ) → Option (List ℤ)

@@ -1,14 +1,11 @@
 // What a row of data gives.
 ghost use Rattle.std.specs.Prelude.{◌≡◌, ◌≤◌, ◌∷◌, ◌++◌, [], length, IfOk, OnOk, IfErr};
 ghost use Rattle.data_file.specs.declared.fault.RowFault.{RowFault};
-ghost use Rattle.data_file.specs.Data.{has_name_form};
 ghost use Rattle.data_file.specs.Reading.{Finds, gathered, gift_of};
 ghost use Rattle.data_file.specs.Shown.{gift_shown};
-ghost use Rattle.std.specs.List.{list_all};
-ghost use Rattle.bm_base.specs.Names.{begins_name, goes_on_name};
 
 use crate::fault::RowFault;
-use bm_base::{Sequence, number};
+use bm_base::{Sequence, has_name_form, number};
 use field_rows::Fields;
 use std::alloc::Global;
 
@@ -19,34 +16,6 @@ pub struct Gift<'a> {
     pub name: &'a [u8],
     /// Its values: at least one.
     pub values: Sequence<i64>,
-}
-
-fn begins(byte: u8) -> bool
-    ensures { result ≡ begins_name byte }
-{
-    byte.is_ascii_alphabetic() || byte == b'_'
-}
-
-fn goes_on(byte: u8) -> bool
-    ensures { result ≡ goes_on_name byte }
-{
-    begins(byte) || byte.is_ascii_digit()
-}
-
-fn all_go_on(bytes: &[u8]) -> bool
-    ensures { result ≡ list_all goes_on_name bytes.now }
-{
-    bytes.iter().all(|byte| goes_on(*byte))
-}
-
-/// Whether these bytes have the form of a name: a letter or `_`, and then letters, `_` and digits.
-fn has_name_form(bytes: &[u8]) -> bool
-    ensures { result ≡ has_name_form bytes.now }
-{
-    match bytes {
-        [first, rest @ ..] => begins(*first) && all_go_on(rest),
-        [] => false,
-    }
 }
 
 /// Puts a value at the end.

@@ -1,6 +1,7 @@
 -- What the fields of a dynamic unit stand for. Private: callers see the table alone.
 use Rattle.std.specs.Prelude.{◌≡◌, ℕ, suc, ◌+◌, ◌-◌, ◌*◌, ◌<◌, ◌≤◌, Bool, true, false, not, ◌&&◌, nat_lt, nat_eq, List, length, take}
 use Rattle.std.specs.Prelude.{get_or, Option, None}
+use Rattle.bm_base.specs.declared.limits.TheConstants.{MOST_PROCESSORS}
 use Rattle.bm_base.specs.Mask.{has_bit}
 use Rattle.unit_law.specs.Units.{first_from}
 use Rattle.dbm_unit.specs.Table.{first_unfired, how_many, count}
@@ -38,12 +39,12 @@ is_full masks fired sizes counts j = nat_lt j (length masks)
 -- masks are right
 pub record IsKept (masks : List ℕ) (fired : List Bool) (waiting : ℕ) (first next : List (Option ℕ)) (sizes counts : List ℕ)
     (ready : List Bool) : Type 0 where
-  pub members : (j p : ℕ) → is_member masks p j ≡ true → p < 128
+  pub members : (j p : ℕ) → is_member masks p j ≡ true → p < MOST_PROCESSORS
   pub in_order : (i j p : ℕ) → i < j → is_member masks p i ≡ true → is_member masks p j ≡ true → get_or fired j false ≡ true
       → get_or fired i false ≡ true
-  pub firsts : (p : ℕ) → p < 128 → get_or first p None ≡ first_unfired masks fired p
-  pub links : (j p : ℕ) → j < length masks → is_member masks p j ≡ true → get_or next (j * 128 + p) None ≡ mask_behind masks p j
-  pub sized : (j : ℕ) → j < length masks → get_or sizes j 0 ≡ how_many (has_bit (get_or masks j 0)) 128
+  pub firsts : (p : ℕ) → p < MOST_PROCESSORS → get_or first p None ≡ first_unfired masks fired p
+  pub links : (j p : ℕ) → j < length masks → is_member masks p j ≡ true → get_or next (j * MOST_PROCESSORS + p) None ≡ mask_behind masks p j
+  pub sized : (j : ℕ) → j < length masks → get_or sizes j 0 ≡ how_many (has_bit (get_or masks j 0)) MOST_PROCESSORS
   pub counted : (j : ℕ) → j < length masks → get_or counts j 0 ≡ count masks fired waiting j
   pub ready_are : (j : ℕ) → is_in ready j ≡ is_full masks fired sizes counts j
 
@@ -52,8 +53,8 @@ pub record HasRoom (room loaded : ℕ) (fired : List Bool) (first next : List (O
     (ready : List Bool) : Type 0 where
   pub loads : loaded ≤ room
   pub fired_room : length fired ≡ room
-  pub first_room : length first ≡ 128
-  pub next_room : length next ≡ room * 128
+  pub first_room : length first ≡ MOST_PROCESSORS
+  pub next_room : length next ≡ room * MOST_PROCESSORS
   pub sizes_room : length sizes ≡ room
   pub counts_room : length counts ≡ room
   pub ready_room : length ready ≡ room

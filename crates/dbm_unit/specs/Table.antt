@@ -2,6 +2,7 @@
 use Rattle.std.specs.Prelude.{ℕ, zero, suc, ◌+◌, Bool, false, not, ◌&&◌, nat_eq, List, length, map, get_or, Option, Some, None}
 use Rattle.std.specs.Prelude.{if◌then◌else◌}
 use Rattle.std.specs.List.{range_with_len}
+use Rattle.bm_base.specs.declared.limits.TheConstants.{MOST_PROCESSORS}
 use Rattle.bm_base.specs.Mask.{has_bit}
 use Rattle.unit_law.specs.Units.{first_from}
 
@@ -33,7 +34,7 @@ how_many f (suc n) = (if f n then 1 else 0) + how_many f n
 
 -- the count of mask j: of the 128 processors, how many wait and have it as their first unfired mask
 abbrev pub count : List ℕ → List Bool → ℕ → ℕ → ℕ
-count masks fired waiting j = how_many (λ p. has_bit waiting p && is_at j (first_unfired masks fired p)) 128
+count masks fired waiting j = how_many (λ p. has_bit waiting p && is_at j (first_unfired masks fired p)) MOST_PROCESSORS
 
 -- the counts of the masks, in queue order
 abbrev pub counts : Table → List ℕ

@@ -20,8 +20,8 @@ pub struct Lists {
 impl Lists {
     /// Empty lists, with the nodes of so many masks.
     pub fn new(alloc: Global, room: usize) -> Result<Lists, AllocError>
-        ensures first { IfOk result (λ lists. lists.first.items ≡ replicate 128 None) }
-        ensures next { IfOk result (λ lists. lists.next.items ≡ replicate (room * 128) None) }
+        ensures first { IfOk result (λ lists. lists.first.items ≡ replicate MOST_PROCESSORS None) }
+        ensures next { IfOk result (λ lists. lists.next.items ≡ replicate (room * MOST_PROCESSORS) None) }
     {
         let nodes = room.checked_mul(128).ok_or(AllocError)?;
         let first = vec![in alloc; None; 128]?;
@@ -41,14 +41,16 @@ impl Lists {
 
     /// Puts mask j at the front of its members' lists, and says how many they are.
     pub fn lead(&mut self, j: usize, mask: Mask) -> u8
-        requires first { length self.old.first.items ≡ 128 }
-        requires next { j * 128 + 128 ≤ length self.old.next.items }
-        ensures size { result ≡ how_many (has_bit mask) 128 }
-        ensures members { (p : ℕ) → has_bit mask p ≡ true → p < 128 }
-        ensures firsts { (p : ℕ) → p < 128 → get_or self.new.first.items p None ≡ led mask j p (get_or self.old.first.items p None) }
-        ensures links { (p : ℕ) → p < 128 → has_bit mask p ≡ true → get_or self.new.next.items (j * 128 + p) None
+        requires first { length self.old.first.items ≡ MOST_PROCESSORS }
+        requires next { j * MOST_PROCESSORS + MOST_PROCESSORS ≤ length self.old.next.items }
+        ensures size { result ≡ how_many (has_bit mask) MOST_PROCESSORS }
+        ensures members { (p : ℕ) → has_bit mask p ≡ true → p < MOST_PROCESSORS }
+        ensures firsts { (p : ℕ) → p < MOST_PROCESSORS → get_or self.new.first.items p None
+            ≡ led mask j p (get_or self.old.first.items p None) }
+        ensures links { (p : ℕ) → p < MOST_PROCESSORS → has_bit mask p ≡ true → get_or self.new.next.items (j * MOST_PROCESSORS + p) None
             ≡ get_or self.old.first.items p None }
-        ensures behind { (k : ℕ) → j * 128 + 128 ≤ k → get_or self.new.next.items k None ≡ get_or self.old.next.items k None }
+        ensures behind { (k : ℕ) → j * MOST_PROCESSORS + MOST_PROCESSORS ≤ k
+            → get_or self.new.next.items k None ≡ get_or self.old.next.items k None }
         ensures first_room { length self.new.first.items ≡ length self.old.first.items }
         ensures next_room { length self.new.next.items ≡ length self.old.next.items }
     {
@@ -69,10 +71,10 @@ impl Lists {
 
     /// Takes mask j from the front of its members' lists.
     pub fn advance(&mut self, j: usize, mask: Mask)
-        requires first { length self.old.first.items ≡ 128 }
-        requires next { j * 128 + 128 ≤ length self.old.next.items }
-        ensures firsts { (p : ℕ) → p < 128 → get_or self.new.first.items p None
-            ≡ advanced mask (get_or self.old.next.items (j * 128 + p) None) p (get_or self.old.first.items p None) }
+        requires first { length self.old.first.items ≡ MOST_PROCESSORS }
+        requires next { j * MOST_PROCESSORS + MOST_PROCESSORS ≤ length self.old.next.items }
+        ensures firsts { (p : ℕ) → p < MOST_PROCESSORS → get_or self.new.first.items p None
+            ≡ advanced mask (get_or self.old.next.items (j * MOST_PROCESSORS + p) None) p (get_or self.old.first.items p None) }
         ensures first_room { length self.new.first.items ≡ length self.old.first.items }
         ensures next { self.new.next.items ≡ self.old.next.items }
     {

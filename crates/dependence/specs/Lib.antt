@@ -1,3 +1,4 @@
+-- The definitions, in the order in which to read them.
 pub mod Producers
 pub mod Links
 pub mod Found

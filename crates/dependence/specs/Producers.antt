@@ -2,6 +2,7 @@
 use Rattle.std.specs.Prelude.{ℕ, ◌<◌, ◌≤◌, Bool, List, [], map, filter, length, slice_get, slice_index_or, All}
 use Rattle.std.specs.List.{range_with_len}
 use Rattle.std.specs.List.Sorted.{IsStrictlyIncreasing}
+use Rattle.bm_base.specs.declared.limits.TheConstants.{MOST_TUPLES}
 use Rattle.smallvec.specs.SmallVec.{SmallVec}
 use Rattle.tuple_ir.specs.declared.tuple.Tuple.{Tuple}
 use Rattle.tuple_ir.specs.Conflict.{clash}
@@ -24,6 +25,6 @@ rows_of vs = map (λ v. v.items) vs
 
 -- lists of producers: of at most 128 tuples, each ascending, each number below the tuple's
 pub record AreRows (rows : List (List ℕ)) : Type 0 where
-  pub few : length rows ≤ 128
+  pub few : length rows ≤ MOST_TUPLES
   pub ascending : (i : ℕ) → i < length rows → IsStrictlyIncreasing (slice_index_or rows i [])
   pub below : (i : ℕ) → i < length rows → All (λ a. a < i) (slice_index_or rows i [])

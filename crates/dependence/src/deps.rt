@@ -7,6 +7,7 @@ ghost use Rattle.dependence.specs.Found.{AreDepsOf};
 
 use crate::links::links;
 use crate::walk::walk;
+use bm_base::MOST_TUPLES;
 use smallvec::SmallVec;
 use std::alloc::{AllocError, Global};
 use std::marker::Model;
@@ -38,7 +39,7 @@ fn producers(
     links: &[u8],
     b: u8,
 ) -> Result<SmallVec<u8, 8>, AllocError>
-    requires few { length tuples.now ≤ 128 }
+    requires few { length tuples.now ≤ MOST_TUPLES }
     requires tuple { b < length tuples.now }
     requires links { links.now ≡ links_of tuples.now }
     ensures { IfOk result (λ row. row.items ≡ producers_at tuples.now b) }
@@ -52,7 +53,7 @@ fn producers(
 /// operands and the links, so the cost is that of the tuples and of the pairs that touch one name or
 /// print. It fails only where memory runs out.
 pub fn conflicts(alloc: Global, block: &Block) -> Result<Deps, AllocError>
-    requires { length block.now.tuples ≤ 128 }
+    requires { length block.now.tuples ≤ MOST_TUPLES }
     ensures { IfOk result (λ deps. AreDepsOf deps block.now.tuples) }
 {
     let tuples = block.tuples.items();
@@ -69,7 +70,7 @@ impl Deps {
     /// The number of tuples of the block, at most 128.
     pub fn len(&self) -> usize
         ensures value { result ≡ length self.now.producers }
-        ensures few { result ≤ 128 }
+        ensures few { result ≤ MOST_TUPLES }
     {
         self.rows.len()
     }

@@ -3,6 +3,7 @@ ghost use Rattle.std.specs.Prelude.{◌≡◌, ◌≤◌, ℕ, Some, None, OnOk,
 ghost use Rattle.dependence.specs.Links.{Thing, touched, is_one, links_of};
 ghost use Rattle.dependence.specs.Walk.{kept_of};
 
+use bm_base::MOST_TUPLES;
 use std::alloc::{AllocError, Global};
 use std::collections::BTreeMap;
 use tuple_ir::Tuple;
@@ -45,7 +46,7 @@ impl Latest {
 /// For each tuple the greatest earlier one that touches the same name, for a print the greatest
 /// earlier print, and `NONE` without one.
 pub(crate) fn links(alloc: Global, tuples: &[Tuple]) -> Result<Vec<u8>, AllocError>
-    requires { length tuples.now ≤ 128 }
+    requires { length tuples.now ≤ MOST_TUPLES }
     ensures { IfOk result (λ links. links.items ≡ links_of tuples.now) }
 {
     let mut links = Vec::new(alloc);

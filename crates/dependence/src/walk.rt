@@ -7,6 +7,7 @@ ghost use Rattle.dependence.specs.Links.{links_of, latest, thing_at, link_to};
 ghost use Rattle.dependence.specs.Walk.{IsGreatest};
 
 use crate::conflict::conflict;
+use bm_base::MOST_TUPLES;
 use smallvec::SmallVec;
 use std::alloc::AllocError;
 use tuple_ir::Tuple;
@@ -70,7 +71,7 @@ pub(crate) fn walk(
     bound: u8,
     row: &mut SmallVec<u8, 8>,
 ) -> Result<(), AllocError>
-    requires few { length tuples.now ≤ 128 }
+    requires few { length tuples.now ≤ MOST_TUPLES }
     requires tuple { b < length tuples.now }
     requires bound { bound ≤ b }
     requires links { links.now ≡ links_of tuples.now }

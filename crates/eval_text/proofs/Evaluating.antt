@@ -1,7 +1,7 @@
 -- The text of an evaluation, from what its parts sent.
-use Rattle.std.proofs.Common.{◌≡◌, ℕ, List, map, Result, Ok, Err, ap, subst}
+use Rattle.std.proofs.Common.{◌≡◌, ℕ, List, map, Result, Ok, Err, subst}
 use Rattle.bm_base.specs.Entry.{Entry}
-use Rattle.bm_base.specs.Memory.{Content, initial}
+use Rattle.bm_base.specs.Memory.{Content}
 use Rattle.bm_io.specs.declared.sinks.SinkFault.{SinkFault}
 use Rattle.bm_io.specs.Sink.{Taken}
 use Rattle.bm_io.specs.LineValues.{value_line, with_line, LeavesPrefix}
@@ -12,28 +12,22 @@ use Rattle.src_meaning.specs.declared.evaluate.End.{End}
 use Rattle.src_meaning.specs.Meaning.{Outcome, meaning}
 use Rattle.bm_course.specs.Sends.{Sends}
 use Rattle.bm_course.proofs.Sending.{first_stops, then_sends}
-use Rattle.eval_text.specs.EvalText.{end_status, end_lines, outcome_text, eval_text}
+use Rattle.eval_text.specs.EvalText.{end_status, end_lines, eval_text}
 
-module _ (p : RProgram) (turns : ℕ) (memory : List Content) (first : memory ≡ initial p.names) where
-  outcome_is : meaning p memory turns ≡ meaning p (initial p.names) turns
-  outcome_is = ap (λ m. meaning p m turns) first
-
-  text_is : outcome_text p.names turns (meaning p memory turns) ≡ eval_text p turns
-  text_is = ap (outcome_text p.names turns) outcome_is
-
+module _ (p : RProgram) (turns : ℕ) (memory : List Content) where
   -- a print is refused
-  pub prints_stop : {T : Type 0} (before now : Taken) (e : SinkFault) → Took {T = T} with_line LeavesPrefix before now (meaning p memory turns).output (Err e) → Sends before now (eval_text p turns) (Err e)
+  pub prints_stop : {T : Type 0} (before now : Taken) (e : SinkFault) → Took {T = T} with_line LeavesPrefix before now (meaning p memory turns).output (Err e) → Sends before now (eval_text p memory turns) (Err e)
   prints_stop before now e h =
       let o : Outcome = meaning p memory turns in
-      subst (λ t. Sends before now t (Err e)) text_is (first_stops (end_status o.end) (map value_line o.output) (end_lines o.end p.names o.memory turns) before now e (Sent-values before now o.output (Err e) h))
+      first_stops (end_status o.end) (map value_line o.output) (end_lines o.end p.names o.memory turns) before now e (Sent-values before now o.output (Err e) h)
 
   -- all prints were taken, and then the lines of the end were sent
   pub then_end : {T : Type 0} (before mid now : Taken) (x : T) (r : Result ℕ SinkFault) (end : End) (names : List Entry) (held : List Content) → end ≡ (meaning p memory turns).end → names ≡ p.names → held ≡ (meaning p memory turns).memory
-      → Took with_line LeavesPrefix before mid (meaning p memory turns).output (Ok x) → Sends mid now (record { status = end_status end; lines = end_lines end names held turns }) r → Sends before now (eval_text p turns) r
+      → Took with_line LeavesPrefix before mid (meaning p memory turns).output (Ok x) → Sends mid now (record { status = end_status end; lines = end_lines end names held turns }) r → Sends before now (eval_text p memory turns) r
   then_end before mid now x r end names held a b d h k =
       let o : Outcome = meaning p memory turns in
       let j : Sends mid now (record { status = end_status o.end; lines = end_lines o.end p.names o.memory turns }) r =
       subst (λ m. Sends mid now (record { status = end_status o.end; lines = end_lines o.end p.names m turns }) r) d
       (subst (λ n. Sends mid now (record { status = end_status o.end; lines = end_lines o.end n held turns }) r) b
       (subst (λ z. Sends mid now (record { status = end_status z; lines = end_lines z names held turns }) r) a k)) in
-      subst (λ t. Sends before now t r) text_is (then_sends (end_status o.end) (map value_line o.output) (end_lines o.end p.names o.memory turns) before mid now x r (Sent-values before mid o.output (Ok x) h) j)
+      then_sends (end_status o.end) (map value_line o.output) (end_lines o.end p.names o.memory turns) before mid now x r (Sent-values before mid o.output (Ok x) h) j

@@ -1,7 +1,7 @@
 -- What an evaluation writes.
 use Rattle.std.specs.Prelude.{ℕ, List, ◌++◌, map}
 use Rattle.bm_base.specs.Entry.{Entry}
-use Rattle.bm_base.specs.Memory.{Content, initial}
+use Rattle.bm_base.specs.Memory.{Content}
 use Rattle.bm_io.specs.LineValues.{value_line}
 use Rattle.src_names.specs.RProgram.{RProgram}
 use Rattle.src_meaning.specs.declared.evaluate.End.{End}
@@ -26,6 +26,6 @@ outcome_text names turns o = record {
   lines = map value_line o.output ++ end_lines o.end names o.memory turns;
 }
 
--- the text of the program's meaning within these turns, from its declared memory
-abbrev pub eval_text : RProgram → ℕ → Output
-eval_text p turns = outcome_text p.names turns (meaning p (initial p.names) turns)
+-- the text of the program's meaning within these turns, from this memory
+abbrev pub eval_text : RProgram → List Content → ℕ → Output
+eval_text p memory turns = outcome_text p.names turns (meaning p memory turns)

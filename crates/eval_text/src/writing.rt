@@ -15,7 +15,6 @@ use bm_io::{LineValues, Sink, SinkFault};
 use bm_report::{write_done, write_going};
 use src_meaning::{End, eval};
 use src_names::Resolved;
-use std::alloc::Global;
 
 /// Writes how an evaluation stands, and answers its status.
 fn write_end<O: Sink>(
@@ -60,18 +59,18 @@ fn write_prints<O: Sink>(
     eval(program, store, turns, &mut values)
 }
 
-/// Writes the evaluation of a program for at most so many turns of its loops: a line for each print, and then how it
-/// stands. It answers 0 where it is done, and 8 where a loop goes on.
+/// Writes the evaluation of a program from this memory for at most so many turns of its loops: a line for each print,
+/// and then how it stands. It answers 0 where it is done, and 8 where a loop goes on.
 pub fn write_evaluation<O: Sink>(
-    alloc: Global,
     out: &mut O,
     program: &Resolved,
+    mut store: Store,
     turns: u64,
 ) -> Result<u8, SinkFault>
-    ensures sent { Sends (O.taken out.old) (O.taken out.new) (eval_text program.now turns) result }
+    requires { IsMemoryOf program.now.names store }
+    ensures sent { Sends (O.taken out.old) (O.taken out.new) (eval_text program.now store turns) result }
     ensures cause { HasCause Failed (O.faults out.old) (O.faults out.new) result }
 {
-    let mut store = Store::new(alloc, program.names())?;
     let end = write_prints(out, program, &mut store, turns)?;
     write_end(out, end, program.names(), &store, turns)
 }

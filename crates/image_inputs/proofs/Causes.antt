@@ -28,7 +28,7 @@ use Rattle.stream_image.specs.Refused.{in_block, fault_of, line_in, IsRefused, I
 use Rattle.stream_image.specs.Refused.IsRefused.{unkept, unordered}
 use Rattle.stream_image.specs.Refused.IsOrderFault.{turned, loose}
 use Rattle.stream_image.proofs.OrderPairs.{stands_first_is, never_both}
-use Rattle.stream_image.proofs.Accepted.{line_told, not_both}
+use Rattle.stream_image.proofs.Accepted.{lined_told, not_both}
 use Rattle.stream_file.specs.Fields.{BlockFields, BlockFits, Fields, Fits, StreamFits, ItemFits}
 use Rattle.stream_file.specs.Images.{block_of, head_of, with_fields, program_of, IsTaken, IsDenied, AllTaken, IsFirstDenied, AreTaken, IsFirstCause, denied, astray}
 use Rattle.stream_file.proofs.Loaded.{increasing}
@@ -144,10 +144,10 @@ module _ (version : ℕ) where
       by : (o : Option BlockFault) → fault_of m (block_of b) b.streams b.masks ≡ o → IsTaken m b ⊎ Cause m b
       by (Some f) e = inr (record { fault = in_block n f; denied_for = unkept f e refl; told = in_block_told n f })
       by None e =
-          let k = line_told m.names m.machine.processors m.machine.processors (block_of b) b.streams b.masks (line_in m b.streams b.masks) e refl refl most (each_item b.streams fits.open_fits.streams_fit) (increasing 0 b.streams fits.open_fits.rising) fits.open_fits.few_tuples fits.open_fits.few_masks in
-          elim (firsts.some_or_none Turned (pace_on m.machine b.tuples) b.tuples (line_in m b.streams b.masks) (turned_or_not (pace_on m.machine b.tuples) b.tuples (line_in m b.streams b.masks) k.0 k.1)) [
+          let lined = lined_told m.names m.machine.processors (block_of b) b.streams b.masks e most (each_item b.streams fits.open_fits.streams_fit) (increasing 0 b.streams fits.open_fits.rising) fits.open_fits.few_tuples fits.open_fits.few_masks in
+          elim (firsts.some_or_none Turned (pace_on m.machine b.tuples) b.tuples (line_in m b.streams b.masks) (turned_or_not (pace_on m.machine b.tuples) b.tuples (line_in m b.streams b.masks) lined.line lined.stand)) [
             | inr f ↦ inr (record { fault = Order n f.a f.b; denied_for = unordered e (turned (record { a = f.a; b = f.b; fault_is = refl; first = f.first })); told = (_, refl) })
-            | inl none ↦ elim (firsts.some_or_none Loose (pace_on m.machine b.tuples) b.tuples (line_in m b.streams b.masks) (loose_or_not (pace_on m.machine b.tuples) b.tuples (line_in m b.streams b.masks) k.0 k.1)) [
+            | inl none ↦ elim (firsts.some_or_none Loose (pace_on m.machine b.tuples) b.tuples (line_in m b.streams b.masks) (loose_or_not (pace_on m.machine b.tuples) b.tuples (line_in m b.streams b.masks) lined.line lined.stand)) [
               | inr f ↦ inr (record { fault = Unordered n f.a f.b; denied_for = unordered e (loose (record { a = f.a; b = f.b; fault_is = refl; none_turned = none; first = f.first })); told = (_, refl) })
               | inl tight ↦ inl (record { kept = e; ordered = record { none_turned = none; none_loose = tight } })
             ]

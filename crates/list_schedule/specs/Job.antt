@@ -2,6 +2,7 @@
 use Rattle.std.specs.Prelude.{◌≡◌, ℕ, zero, suc, ◌+◌, ◌<◌, ◌≤◌, ◌⊎◌, max, List, [], map, fold, filter, sum, length, nat_eq, slice_index}
 use Rattle.std.specs.Prelude.{slice_index_or, Contains}
 use Rattle.std.specs.List.{range_with_len, list_any}
+use Rattle.bm_base.specs.declared.limits.TheConstants.{MOST_TICKS}
 use Rattle.bm_base.specs.Machine.{Machine}
 use Rattle.bm_base.specs.Spec.{time_of}
 use Rattle.tuple_ir.specs.declared.tuple.Tuple.{Tuple}
@@ -40,7 +41,7 @@ pub record IsJob (job : Job) : Type 0 where
 
 -- all are times of a machine: a tick at least and 1000 at most
 abbrev pub AreTimes : List ℕ → Type 0
-AreTimes times = (t : ℕ) → t < length times → (1 ≤ slice_index times t) × (slice_index times t ≤ 1000)
+AreTimes times = (t : ℕ) → t < length times → (1 ≤ slice_index times t) × (slice_index times t ≤ MOST_TICKS)
 
 -- the tuples that have tuple a as a producer
 abbrev pub consumers : Job → ℕ → List ℕ

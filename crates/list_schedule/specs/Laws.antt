@@ -1,5 +1,6 @@
 -- Laws of greedy schedules.
 use Rattle.std.specs.Prelude.{◌≡◌, ◌+◌, ◌-◌, ◌*◌, ◌≤◌, List, length}
+use Rattle.bm_base.specs.declared.limits.TheConstants.{MOST_TUPLES}
 use Rattle.bm_base.specs.Machine.{Machine, IsMachine}
 use Rattle.tuple_ir.specs.declared.tuple.Tuple.{Tuple}
 use Rattle.list_schedule.specs.Job.{Job, IsJob, job_of, work, longest}
@@ -21,5 +22,5 @@ BlocksAreJobs = (machine : Machine) (ts : List Tuple) → IsMachine machine → 
 
 -- at most 128 tuples have a schedule on a lawful machine, and only one
 abbrev pub BlocksHaveOneSchedule : Type 0
-BlocksHaveOneSchedule = (machine : Machine) (ts : List Tuple) → IsMachine machine → length ts ≤ 128 → (s : Numbered)
+BlocksHaveOneSchedule = (machine : Machine) (ts : List Tuple) → IsMachine machine → length ts ≤ MOST_TUPLES → (s : Numbered)
     × IsScheduleOf machine ts s × ((other : Numbered) → IsScheduleOf machine ts other → other ≡ s)

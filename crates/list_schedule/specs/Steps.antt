@@ -2,6 +2,7 @@
 use Rattle.std.specs.Prelude.{◌≡◌, Bool, true, false, ℕ, ◌+◌, ◌<◌, ◌≤◌, ◌⊎◌, ◌&&◌, List, [], map, length, nat_eq, nat_lt, slice_get}
 use Rattle.std.specs.Prelude.{slice_index, slice_index_or, cond, Option, Some, None}
 use Rattle.std.specs.List.{range_with_len}
+use Rattle.bm_base.specs.declared.limits.TheConstants.{MOST_TUPLES, MOST_TICKS}
 use Rattle.list_schedule.specs.Job.{Job, greatest}
 use Rattle.list_schedule.specs.Greedy.{Plan}
 use Rattle.list_schedule.specs.declared.job.Draft.{Draft}
@@ -50,8 +51,8 @@ ready_from times starts producers = greatest (map (finish_of times starts) produ
 -- the starts are those of a schedule in the making
 pub record AreStarts (times starts : List ℕ) : Type 0 where
   pub many : length starts ≡ length times
-  pub few : length times ≤ 128
-  pub short : (u : ℕ) → slice_index times u ≤ 1000
+  pub few : length times ≤ MOST_TUPLES
+  pub short : (u : ℕ) → slice_index times u ≤ MOST_TICKS
   pub early : (u : ℕ) → slice_index starts u < never → slice_index starts u ≤ 128000
 
 -- the tick from which on tuple t may be placed, `never` where it has a place already

@@ -8,7 +8,7 @@ use crate::heights::{greatest_times, heights};
 use crate::job::{Draft, Job, ticks};
 use crate::place::place_all;
 use crate::totals::{greatest_of, last_of, sum_of};
-use bm_base::Spec;
+use bm_base::{MOST_TUPLES, Spec};
 use dependence::Deps;
 use std::alloc::{AllocError, Global};
 use tuple_ir::Block;
@@ -26,7 +26,7 @@ pub fn schedule(
     ensures { IfOk result (λ s. IsScheduleOf spec.now block.now.tuples s) }
 {
     // Conflicts are those of at most 128 tuples.
-    prove!(deps.len() <= 128);
+    prove!(deps.len() <= MOST_TUPLES);
     let times = greatest_times(alloc, block.tuples.items(), spec)?;
     let job = Job {
         processors: spec.processors(),

@@ -6,7 +6,7 @@ ghost use Rattle.tuple_ir.specs.Kinds.{class_of};
 ghost use Rattle.list_schedule.specs.Job.{IsJob, AreTimes, greatest, height};
 
 use crate::job::Job;
-use bm_base::Spec;
+use bm_base::{MOST_TICKS, MOST_TUPLES, Spec};
 use dependence::Deps;
 use std::alloc::{AllocError, Global};
 use tuple_ir::{Tuple, class};
@@ -36,7 +36,7 @@ pub(crate) fn larger(a: u32, b: u32) -> u32
 
 /// The greatest of the numbers that stand at the consumers of tuple t, 0 without one.
 fn above(deps: &Deps, heights: &[u32], t: u8) -> u32
-    requires few { length heights.now ≤ 128 }
+    requires few { length heights.now ≤ MOST_TUPLES }
     requires same { length deps.now.producers ≡ length heights.now }
     ensures { result ≡ greatest
         (map (slice_index heights.now)
@@ -53,9 +53,9 @@ fn above(deps: &Deps, heights: &[u32], t: u8) -> u32
 
 /// The height of each tuple, in ticks.
 pub(crate) fn heights(alloc: Global, job: &Job<'_>) -> Result<Vec<u32>, AllocError>
-    requires few { length job.now.times.items ≤ 128 }
+    requires few { length job.now.times.items ≤ MOST_TUPLES }
     requires same { length job.now.deps.now.producers ≡ length job.now.times.items }
-    requires short { (t : ℕ) → slice_index job.now.times.items t ≤ 1000 }
+    requires short { (t : ℕ) → slice_index job.now.times.items t ≤ MOST_TICKS }
     requires sound { (p : ℕ) → 1 ≤ p
         → IsJob (record { processors = p; times = job.now.times.items; producers = job.now.deps.now.producers }) }
     ensures { IfOk result (λ heights. (p : ℕ) → 1 ≤ p → heights.items

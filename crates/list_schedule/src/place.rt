@@ -8,14 +8,15 @@ use crate::heights::larger;
 use crate::job::{Draft, Job};
 use crate::steps::{best_idle, first_open, some_idle_from, some_open_from};
 use crate::tables::{open_all, put};
+use bm_base::{MOST_TICKS, MOST_TUPLES};
 
 /// Gives each tuple its start and its processor. While one has none, the clock goes on to the least
 /// tick at which a processor is idle and a tuple is ready, and the first of the ready tuples is
 /// placed on the best of the idle processors.
 pub(crate) fn place_all(job: &Job<'_>, heights: &[u32], draft: &mut Draft)
-    requires few { length job.now.times.items ≤ 128 }
+    requires few { length job.now.times.items ≤ MOST_TUPLES }
     requires deps { length job.now.deps.now.producers ≡ length job.now.times.items }
-    requires short { (u : ℕ) → slice_index job.now.times.items u ≤ 1000 }
+    requires short { (u : ℕ) → slice_index job.now.times.items u ≤ MOST_TICKS }
     requires sound { IsJob (job_with job.now.processors job.now.times.items job.now.deps.now.producers) }
     requires heights { length heights.now ≡ length job.now.times.items }
     requires tall { (u : ℕ) → u < length job.now.times.items → slice_index heights.now u

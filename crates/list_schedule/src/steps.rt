@@ -4,6 +4,7 @@ ghost use Rattle.list_schedule.specs.Steps.{never, Tells, starts_of, AreTicks, l
 ghost use Rattle.list_schedule.specs.Steps.{is_found, index_of};
 
 use crate::job::{Draft, Job, NEVER};
+use bm_base::MOST_TUPLES;
 
 /// The tick from which on processor p is idle.
 fn idle_from(job: &Job<'_>, draft: &Draft, p: u8) -> u32
@@ -66,7 +67,7 @@ fn open_at(job: &Job<'_>, draft: &Draft, t: u8) -> Option<u32>
 
 /// The least tick from which on some tuple may be placed, none without one.
 pub(crate) fn some_open_from(job: &Job<'_>, draft: &Draft) -> Option<u32>
-    requires few { length job.now.times.items ≤ 128 }
+    requires few { length job.now.times.items ≤ MOST_TUPLES }
     requires tables { AreTables job.now.processors job.now.times.items job.now.deps.now.producers draft.now }
     ensures { (least : ℕ) × Tells result least
         × IsLeast (open_from job.now.times.items job.now.deps.now.producers (starts_of draft.now)) (length job.now.times.items) least }
@@ -133,7 +134,7 @@ fn better_if(best: Best, k: u8, late: Option<u32>, tick: u32, score: u32) -> Bes
 /// Of the tuples that may be placed at `tick` the one that is taken first.
 pub(crate) fn first_open(job: &Job<'_>, heights: &[u32], draft: &Draft, tick: u32) -> Best
     requires tick { tick < never }
-    requires few { length job.now.times.items ≤ 128 }
+    requires few { length job.now.times.items ≤ MOST_TUPLES }
     requires heights { length heights.now ≡ length job.now.times.items }
     requires tables { AreTables job.now.processors job.now.times.items job.now.deps.now.producers draft.now }
     ensures { IsBest (open_from job.now.times.items job.now.deps.now.producers (starts_of draft.now)) (slice_index heights.now) tick

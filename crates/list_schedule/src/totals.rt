@@ -4,11 +4,12 @@ ghost use Rattle.std.specs.List.{range_with_len};
 ghost use Rattle.list_schedule.specs.Job.{greatest};
 
 use crate::heights::larger;
+use bm_base::{MOST_TICKS, MOST_TUPLES};
 
 /// The sum of the times.
 pub(crate) fn sum_of(times: &[u32]) -> u32
-    requires few { length times.now ≤ 128 }
-    requires short { (u : ℕ) → slice_index times.now u ≤ 1000 }
+    requires few { length times.now ≤ MOST_TUPLES }
+    requires short { (u : ℕ) → slice_index times.now u ≤ MOST_TICKS }
     ensures { result ≡ sum times.now }
 {
     let mut sum = 0;
@@ -31,9 +32,9 @@ pub(crate) fn greatest_of(numbers: &[u32]) -> u32
 
 /// The last finish of tuples with these times and starts, 0 without one.
 pub(crate) fn last_of(times: &[u32], starts: &[u32]) -> u32
-    requires few { length times.now ≤ 128 }
+    requires few { length times.now ≤ MOST_TUPLES }
     requires same { length starts.now ≡ length times.now }
-    requires short { (u : ℕ) → slice_index times.now u ≤ 1000 }
+    requires short { (u : ℕ) → slice_index times.now u ≤ MOST_TICKS }
     requires early { (u : ℕ) → slice_index starts.now u ≤ 128000 }
     ensures { result ≡ greatest (map (λ u. slice_index starts.now u + slice_index times.now u) (range_with_len 0 (length times.now))) }
 {

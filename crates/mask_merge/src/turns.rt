@@ -9,7 +9,7 @@ ghost use Rattle.mask_merge.specs.Laws.{KeepsTuples};
 ghost use Rattle.mask_merge.specs.Reduced.{IsAdmissible, NoneAdmissible, IsTurn, IsIrreducible, IsReduced};
 ghost use Rattle.mask_merge.specs.Search.{edit_of, AllStand, IsOnTurn, IsFirstEdit};
 
-use bm_base::Spec;
+use bm_base::{MOST_TUPLES, Spec};
 use dependence::Deps;
 use line_model::{Items, Line};
 use std::alloc::{AllocError, Global};
@@ -42,7 +42,7 @@ fn all_ordered(bounds: &Bounds, deps: &Deps) -> bool
     requires { AllStand deps.now.producers bounds.now.line }
     ensures { Decides result (AllOrdered bounds.now.pace deps.now.producers bounds.now.line) }
 {
-    prove!(deps.len() <= 128);
+    prove!(deps.len() <= MOST_TUPLES);
     for i in 0..deps.len() as u8 {
         for g in deps.producers(i) {
             if bounds.ordered(*g, i).is_none() {
@@ -141,7 +141,7 @@ pub fn reduce(
     deps: &Deps,
     spec: &Spec,
 ) -> Result<Line, AllocError>
-    requires few { length block.now.tuples ≤ 128 }
+    requires few { length block.now.tuples ≤ MOST_TUPLES }
     requires deps { AreDepsOf deps.now block.now.tuples }
     requires line { IsLine (length block.now.tuples) spec.now.processors line.now.items }
     requires stand { (t : ℕ) → t < length block.now.tuples → Contains (tuples line.now.items) t }

@@ -1,7 +1,8 @@
 -- What the run of a program writes.
 use Rattle.std.specs.Prelude.{ℕ, ◌≡◌, ◌≤◌, ℤ, List, ◌++◌, map, Option, Some, None}
 use Rattle.bm_base.specs.Entry.{Entry}
-use Rattle.bm_base.specs.Memory.{Content, initial}
+use Rattle.bm_base.specs.Memory.{Content}
+use Rattle.bm_base.specs.Memories.{IsMemoryOf}
 use Rattle.bm_io.specs.LineValues.{value_line}
 use Rattle.timing_script.specs.Script.{script_duration}
 use Rattle.timing_script.specs.declared.script.Script.{Script}
@@ -47,12 +48,13 @@ abbrev pub choice_of : UnitKind → Choice
 choice_of Static = static_choice
 choice_of Dynamic = dynamic_choice
 
--- the same on a unit of this kind, with the durations of the script, from the declared memory
-abbrev pub IsRunText : Program → UnitKind → Script → ℕ → Output → Type 0
-IsRunText m kind script budget text = IsTextOf (choice_of kind) (script_duration script) m (initial m.names) budget text
+-- the same on a unit of this kind, with the durations of the script
+abbrev pub IsRunText : Program → UnitKind → Script → List Content → ℕ → Output → Type 0
+IsRunText m kind script memory budget text = IsTextOf (choice_of kind) (script_duration script) m memory budget text
 
--- Where no run from the declared memory passes a number of ticks, the text at this budget tells the run's end.
+-- Where no run from this memory passes a number of ticks, the text at this budget tells the run's end.
 abbrev pub BoundedRunsEnd : Type 0
-BoundedRunsEnd = (m : Program) (kind : UnitKind) (script : Script) (budget : ℕ) (text : Output) → AllFit m → HasTimes m
-    → ((past : List Action) → IsRun m (initial m.names) past → (state_after m (initial m.names) past).clock ≤ budget)
-    → IsRunText m kind script budget text → text.status ≡ 0
+BoundedRunsEnd = (m : Program) (kind : UnitKind) (script : Script) (memory : List Content) (budget : ℕ) (text : Output) → AllFit m
+    → HasTimes m → IsMemoryOf m.names memory
+    → ((past : List Action) → IsRun m memory past → (state_after m memory past).clock ≤ budget)
+    → IsRunText m kind script memory budget text → text.status ≡ 0

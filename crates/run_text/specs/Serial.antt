@@ -1,6 +1,7 @@
 -- What the text of a run tells of the blocks' serial meaning.
 use Rattle.std.specs.Prelude.{ℕ, ◌≡◌, ◌+◌, ◌*◌, ◌≤◌, ℤ, List, Option, Some, None}
-use Rattle.bm_base.specs.Memory.{initial}
+use Rattle.bm_base.specs.Memory.{Content}
+use Rattle.bm_base.specs.Memories.{IsMemoryOf}
 use Rattle.bm_base.specs.Prefix.{IsPrefixOf}
 use Rattle.tuple_ir.specs.Serial.{outcome}
 use Rattle.timing_script.specs.declared.script.Script.{Script}
@@ -12,28 +13,28 @@ use Rattle.bm_course.specs.Course.{Output}
 use Rattle.run_text.specs.declared.kind.UnitKind.{UnitKind}
 use Rattle.run_text.specs.RunText.{IsRunText}
 
--- as many blocks as its end has ticks, and one more, have ended with this memory and output
-pub record EndsSerially (m : Program) (output : List ℤ) (e : End) : Type 0 where
-  pub ended : (outcome m.blocks (initial m.names) (e.clock + 1)).next ≡ None
-  pub memory : (outcome m.blocks (initial m.names) (e.clock + 1)).world.memory ≡ e.memory
-  pub output_is : (outcome m.blocks (initial m.names) (e.clock + 1)).world.output ≡ output
+-- as many blocks as its end has ticks, and one more, have ended from this memory, with the end's memory and this output
+pub record EndsSerially (m : Program) (memory : List Content) (output : List ℤ) (e : End) : Type 0 where
+  pub ended : (outcome m.blocks memory (e.clock + 1)).next ≡ None
+  pub memory_is : (outcome m.blocks memory (e.clock + 1)).world.memory ≡ e.memory
+  pub output_is : (outcome m.blocks memory (e.clock + 1)).world.output ≡ output
 
--- The output is a prefix of that of the blocks' serial meaning; and where there is an end, that has ended with this memory and output.
-pub record MeansSerially (m : Program) (budget : ℕ) (output : List ℤ) (end : Option End) : Type 0 where
+-- The output is a prefix of that of the blocks' serial meaning from this memory; and where there is an end, that has ended so.
+pub record MeansSerially (m : Program) (memory : List Content) (budget : ℕ) (output : List ℤ) (end : Option End) : Type 0 where
   pub clock : ℕ
   pub in_time : clock ≤ budget
-  pub front : IsPrefixOf output (outcome m.blocks (initial m.names) (clock + 1)).world.output
-  pub ends : (e : End) → end ≡ Some e → EndsSerially m output e
+  pub front : IsPrefixOf output (outcome m.blocks memory (clock + 1)).world.output
+  pub ends : (e : End) → end ≡ Some e → EndsSerially m memory output e
 
 abbrev pub RunsMeanTheSerialOrder : Type 0
-RunsMeanTheSerialOrder = (m : Program) (kind : UnitKind) (script : Script) (budget : ℕ) (text : Output) → AllFit m → HasTimes m
-    → IsDeterminate m
-    → (h : IsRunText m kind script budget text) → MeansSerially m budget h.output h.end
+RunsMeanTheSerialOrder = (m : Program) (kind : UnitKind) (script : Script) (memory : List Content) (budget : ℕ) (text : Output) → AllFit m
+    → HasTimes m → IsDeterminate m → IsMemoryOf m.names memory
+    → (h : IsRunText m kind script memory budget text) → MeansSerially m memory budget h.output h.end
 
 -- Where k blocks have ended, none stands more than c times in their trail, and the budget is c passes or more, the text tells an end.
 abbrev pub SerialEndsAreTold : Type 0
-SerialEndsAreTold = (m : Program) (kind : UnitKind) (script : Script) (budget c k : ℕ) (text : Output) → AllFit m → HasTimes m
-    → IsDeterminate m
-    → (outcome m.blocks (initial m.names) k).next ≡ None → StandsAtMost c (outcome m.blocks (initial m.names) k).trail
+SerialEndsAreTold = (m : Program) (kind : UnitKind) (script : Script) (memory : List Content) (budget c k : ℕ) (text : Output) → AllFit m
+    → HasTimes m → IsDeterminate m → IsMemoryOf m.names memory
+    → (outcome m.blocks memory k).next ≡ None → StandsAtMost c (outcome m.blocks memory k).trail
     → c * pass_time m ≤ budget
-    → IsRunText m kind script budget text → text.status ≡ 0
+    → IsRunText m kind script memory budget text → text.status ≡ 0

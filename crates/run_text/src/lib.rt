@@ -5,9 +5,13 @@
 #![tactic(auto)]
 
 mod kind;
+#[cfg(test)]
+mod tests;
 mod writing;
 
-ghost use Rattle.std.specs.Prelude.{◌≡◌, ℕ};
+ghost use Rattle.std.specs.Prelude.{◌≡◌, ℕ, List};
+ghost use Rattle.bm_base.specs.Memory.{Content};
+ghost use Rattle.bm_base.specs.Memories.{IsMemoryOf};
 ghost use Rattle.unit_law.specs.State.{Program};
 ghost use Rattle.unit_law.specs.Fit.{AllFit, AllStand, HasTimes};
 ghost use Rattle.timing_script.specs.declared.script.Script.{Script};
@@ -17,11 +21,10 @@ ghost use Rattle.run_text.specs.RunText.{IsRunText, BoundedRunsEnd};
 ghost use Rattle.run_text.specs.Serial.{RunsMeanTheSerialOrder, SerialEndsAreTold};
 ghost use Rattle.run_text.specs.Laws.{TextsAreOne, RunsHaveSomeText, BoundedRunsTellTheirEnd};
 
-use bm_base::laws_of_memories;
 use bm_run::a_run_shows_one_thing;
 pub use kind::UnitKind;
 use unit_law::{canonical_runs_are_runs, choices_are_lawful, lawful_units_run};
-pub use writing::{write_run, write_run_on};
+pub use writing::{machine_before, write_run, write_run_on};
 
 /// A run on any unit, with any timing and from any memory, has at most one text. It has one where
 /// lines fit their blocks, each tuple stands in its line, and times, timing, unit and memory are
@@ -39,21 +42,20 @@ pub fn runs_on_any_unit_have_one_text()
 
 /// A run on a unit of a kind has at most one text.
 pub fn runs_have_one_text()
-    ensures { (m : Program) (kind : UnitKind) (script : Script) (budget : ℕ) (s t : Output) → IsRunText m kind script budget s
-        → IsRunText m kind script budget t → s ≡ t }
+    ensures { (m : Program) (kind : UnitKind) (script : Script) (memory : List Content) (budget : ℕ) (s t : Output)
+        → IsRunText m kind script memory budget s → IsRunText m kind script memory budget t → s ≡ t }
 {
     runs_on_any_unit_have_one_text();
 }
 
 /// A run on a unit of a kind has a text where lines fit their blocks, each tuple stands in its line, and the times
-/// are lawful.
+/// and the memory are lawful.
 pub fn runs_have_some_text()
-    ensures { (m : Program) (kind : UnitKind) (script : Script) (budget : ℕ) → AllFit m → AllStand m → HasTimes m → (text : Output)
-        × IsRunText m kind script budget text }
+    ensures { (m : Program) (kind : UnitKind) (script : Script) (memory : List Content) (budget : ℕ) → AllFit m → AllStand m
+        → HasTimes m → IsMemoryOf m.names memory → (text : Output) × IsRunText m kind script memory budget text }
 {
     runs_on_any_unit_have_one_text();
     choices_are_lawful();
-    laws_of_memories();
 }
 
 /// What the text of a run on a unit of a kind tells, the blocks' serial meaning has; and where that ends
@@ -66,15 +68,13 @@ pub fn runs_mean_the_serial_order()
     choices_are_lawful();
     lawful_units_run();
     canonical_runs_are_runs();
-    laws_of_memories();
 }
 
-/// Where no run from the declared memory passes a number of ticks, the text at this budget, and at
+/// Where no run from a memory passes a number of ticks, the text at this budget, and at
 /// each greater one, tells the end of the run on a unit of each kind.
 pub fn bounded_runs_end()
     ensures { BoundedRunsEnd }
 {
     runs_on_any_unit_have_one_text();
     choices_are_lawful();
-    laws_of_memories();
 }

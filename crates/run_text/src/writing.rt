@@ -11,9 +11,6 @@ ghost use Rattle.bm_machine.specs.Next.{Stays};
 ghost use Rattle.bm_run.specs.Runs.{RunsTo, GivesOn};
 ghost use Rattle.bm_course.specs.Course.{Output};
 ghost use Rattle.bm_course.specs.Sends.{Sends};
-ghost use Rattle.unit_law.specs.Units.{static_choice, dynamic_choice};
-ghost use Rattle.timing_script.specs.Script.{script_duration};
-ghost use Rattle.bm_base.specs.Memory.{initial};
 ghost use Rattle.run_text.specs.RunText.{IsTextOf, IsRunText};
 ghost use Rattle.run_text.specs.Begins.{Begins, SendsText};
 
@@ -31,8 +28,13 @@ use timing_law::Timing;
 use timing_script::Script;
 use unit_law::{BarrierUnit, choices_are_lawful};
 
-/// A machine before the run of a program from this memory, on this unit with this timing.
-fn machine_before<'a, U: BarrierUnit, T: Timing>(
+/// A machine before the first event of the run of a program from this memory, on this unit with this
+/// timing. The unit has room for the masks of each block.
+///
+/// # Errors
+///
+/// `AllocError` where there is no memory for the machine.
+pub fn machine_before<'a, U: BarrierUnit, T: Timing>(
     alloc: Global,
     image: &'a Image,
     store: Store,
@@ -122,64 +124,34 @@ pub fn write_run_on<U: BarrierUnit, T: Timing, O: Sink>(
     show(out, &mut machine, image.names(), budget)
 }
 
-/// The text on the static unit.
-fn write_static<O: Sink>(
-    alloc: Global,
-    out: &mut O,
-    image: &Image,
-    script: Script,
-    budget: u64,
-) -> Result<u8, SinkFault>
-    requires early { budget ≤ MOST_BUDGET }
-    ensures sent { (text : Output) × IsTextOf static_choice (script_duration script) image.now (initial image.now.names) budget text
-        × Sends (O.taken out.old) (O.taken out.new) text result }
-    ensures cause { HasCause Failed (O.faults out.old) (O.faults out.new) result }
-{
-    let _blocks = image.blocks();
-    choices_are_lawful();
-    runs_have_some_text();
-    let store = Store::new(alloc, image.names())?;
-    let unit = Sbm::new(alloc, image.most_masks())?;
-    write_run_on(alloc, out, image, store, unit, script, budget)
-}
-
-/// The text on the dynamic unit.
-fn write_dynamic<O: Sink>(
-    alloc: Global,
-    out: &mut O,
-    image: &Image,
-    script: Script,
-    budget: u64,
-) -> Result<u8, SinkFault>
-    requires early { budget ≤ MOST_BUDGET }
-    ensures sent { (text : Output) × IsTextOf dynamic_choice (script_duration script) image.now (initial image.now.names) budget text
-        × Sends (O.taken out.old) (O.taken out.new) text result }
-    ensures cause { HasCause Failed (O.faults out.old) (O.faults out.new) result }
-{
-    let _blocks = image.blocks();
-    choices_are_lawful();
-    runs_have_some_text();
-    let store = Store::new(alloc, image.names())?;
-    let unit = Dbm::new(alloc, image.most_masks())?;
-    write_run_on(alloc, out, image, store, unit, script, budget)
-}
-
-/// Writes the text of the run of a program from its declared memory, on a unit of this kind, with the
-/// durations of a script, at clocks of at most `budget` ticks, as `write_run_on` does.
+/// Writes the text of the run of a program from this memory, on a unit of this kind, with the durations of
+/// a script, at clocks of at most `budget` ticks, as `write_run_on` does.
 pub fn write_run<O: Sink>(
     alloc: Global,
     out: &mut O,
     image: &Image,
+    store: Store,
     kind: UnitKind,
     script: Script,
     budget: u64,
 ) -> Result<u8, SinkFault>
     requires early { budget ≤ MOST_BUDGET }
-    ensures sent { (text : Output) × IsRunText image.now kind script budget text × Sends (O.taken out.old) (O.taken out.new) text result }
+    requires memory { IsMemoryOf image.now.names store }
+    ensures sent { (text : Output) × IsRunText image.now kind script store budget text
+        × Sends (O.taken out.old) (O.taken out.new) text result }
     ensures cause { HasCause Failed (O.faults out.old) (O.faults out.new) result }
 {
+    let _blocks = image.blocks();
+    choices_are_lawful();
+    runs_have_some_text();
     match kind {
-        UnitKind::Static => write_static(alloc, out, image, script, budget),
-        UnitKind::Dynamic => write_dynamic(alloc, out, image, script, budget),
+        UnitKind::Static => {
+            let unit = Sbm::new(alloc, image.most_masks())?;
+            write_run_on(alloc, out, image, store, unit, script, budget)
+        }
+        UnitKind::Dynamic => {
+            let unit = Dbm::new(alloc, image.most_masks())?;
+            write_run_on(alloc, out, image, store, unit, script, budget)
+        }
     }
 }

@@ -13,3 +13,8 @@ abbrev pub ProgramsAreShownOnce : Type 0
 ProgramsAreShownOnce = (machine : Machine) (p : RProgram) (shown other : List ShownBlock) → IsMachine machine → IsRight p
     → AllFewNodes p.body →
     AreShown machine (blocks_of p) shown → AreShown machine (blocks_of p) other → shown ≡ other
+
+-- .. and something is shown of it
+abbrev pub ProgramsAreShown : Type 0
+ProgramsAreShown = (machine : Machine) (p : RProgram) → IsMachine machine → IsRight p → AllFewNodes p.body
+    → (shown : List ShownBlock) × AreShown machine (blocks_of p) shown

@@ -11,6 +11,6 @@ mod shown;
 mod tests;
 mod writing;
 
-pub use laws::programs_are_shown_once;
+pub use laws::{programs_are_shown, programs_are_shown_once};
 pub use shown::{ShownBlock, ShownItem, ShownPair, show_program};
 pub use writing::write_listing;

@@ -12,7 +12,7 @@ ghost use Rattle.compiled_image.specs.Reasons.{Pair, pair, pairs_of};
 ghost use Rattle.show_text.specs.Shown.{IsShown, AreShown, ArePairs, RunsBelow, shown_item};
 
 use block_plan::{Plan, plan};
-use bm_base::{Sequence, Spec};
+use bm_base::{MOST_TUPLES, Sequence, Spec};
 use dependence::conflicts;
 use line_model::{Item, Line};
 use src_names::Resolved;
@@ -105,7 +105,7 @@ fn show_pairs(
     line: &Line,
     spec: &Spec,
 ) -> Result<Sequence<ShownPair>, AllocError>
-    requires few { length block.now.tuples ≤ 128 }
+    requires few { length block.now.tuples ≤ MOST_TUPLES }
     requires in_order { IsInOrder spec.now block.now.tuples line.now.items }
     ensures { IfOk result (λ pairs. ArePairs (pace_on spec.now block.now.tuples) line.now.items (pairs_of block.now.tuples) pairs) }
 {
@@ -124,7 +124,7 @@ pub(crate) fn show_block(
     block: &Block,
     spec: &Spec,
 ) -> Result<ShownBlock, AllocError>
-    requires { length block.now.tuples ≤ 128 }
+    requires { length block.now.tuples ≤ MOST_TUPLES }
     ensures { IfOk result (λ shown. IsShown spec.now block.now shown) }
 {
     let plan = plan(alloc, block, spec)?;

@@ -4,14 +4,14 @@ ghost use Rattle.std.specs.Prelude.{◌≡◌, ◌≤◌, ◌<◌, ◌+◌, ◌^
 ghost use Rattle.std.specs.Prelude.{MatchOption, MatchResult, ℕ, pos, true, false};
 ghost use Rattle.std.specs.Char.{is_ascii_digit};
 ghost use Rattle.src_lexer.specs.declared.token.Symbol.{Symbol};
-ghost use Rattle.bm_base.specs.Names.{begins_name, goes_on_name};
+ghost use Rattle.bm_base.specs.Names as names;
 ghost use Rattle.src_lexer.specs.Spell as spec;
 ghost use Rattle.src_lexer.specs.Scanning.{OnlySymbol, NoPair};
 ghost use Rattle.src_lexer.specs.Symbols.{spelling, word_of};
 
 use crate::fault::LexFault;
 use crate::token::{Keyword, SYMBOLS, Symbol, TokenKind};
-use bm_base::{MOST_NAME_BYTES, count};
+use bm_base::{MOST_NAME_BYTES, begins_name, count, goes_on_name};
 
 /// A piece: the place behind it, and the token that it is, if any.
 pub type Piece = (usize, Option<TokenKind>);
@@ -26,12 +26,6 @@ fn begins_comment(b: u8) -> bool
     ensures { result ≡ spec.begins_comment b }
 {
     b == b'#'
-}
-
-fn begins_name_byte(b: u8) -> bool
-    ensures { result ≡ begins_name b }
-{
-    b.is_ascii_alphabetic() || b == b'_'
 }
 
 /// The end of the longest row of bytes from here that such a row is made of.
@@ -63,17 +57,17 @@ fn comment_end(src: &[u8], from: usize) -> usize
     span_end(src, from, is_comment_byte)
 }
 
-fn goes_on_name_byte(b: u8) -> bool
-    ensures { result ≡ goes_on_name b }
+fn is_name_byte(b: u8) -> bool
+    ensures { result ≡ names.goes_on_name b }
 {
-    begins_name_byte(b) || b.is_ascii_digit()
+    goes_on_name(b)
 }
 
 fn name_end(src: &[u8], from: usize) -> usize
     requires { from ≤ length src.now }
-    ensures { spec.IsSpan src.now goes_on_name from result }
+    ensures { spec.IsSpan src.now names.goes_on_name from result }
 {
-    span_end(src, from, goes_on_name_byte)
+    span_end(src, from, is_name_byte)
 }
 
 fn is_digit(b: u8) -> bool
@@ -162,7 +156,7 @@ fn symbol_at(src: &[u8], from: usize) -> Option<(Symbol, usize)>
 
 fn word(src: &[u8], from: usize) -> Result<Piece, LexFault>
     requires short { length src.now < 2 ^ 32 - 1 }
-    requires begins { spec.Begins src.now begins_name from }
+    requires begins { spec.Begins src.now names.begins_name from }
     ensures { MatchResult result (λ r. spec.IsAllowedPiece src.now from r.0 r.1) (λ e. spec.IsFaultAt src.now from e) }
 {
     let to = name_end(src, from);
@@ -215,7 +209,7 @@ pub fn piece(src: &[u8], from: usize) -> Result<Piece, LexFault>
         Ok((from + 1, None))
     } else if begins_comment(first) {
         Ok((comment_end(src, from), None))
-    } else if begins_name_byte(first) {
+    } else if begins_name(first) {
         word(src, from)
     } else if is_digit(first) {
         number(src, from)

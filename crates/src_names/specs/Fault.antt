@@ -1,6 +1,6 @@
 -- The first fault of a program's declarations and uses.
 use Rattle.std.specs.Prelude.{◌≡◌, ◌≢◌, ◌⊎◌, ℕ, ◌+◌, ◌-◌, ◌^◌, ◌<◌, ◌≤◌, min, ℤ, pos, List, [], ◌∷◌, ◌++◌, Some, slice_get, length, map}
-use Rattle.bm_base.specs.declared.limits.TheConstants.{MOST_ELEMENTS}
+use Rattle.bm_base.specs.declared.limits.TheConstants.{MOST_ELEMENTS, MOST_NAMES}
 use Rattle.bm_base.specs.declared.names.Kind.TheVariants as k
 use Rattle.bm_base.specs.Entry.{Entry}
 use Rattle.bm_base.specs.Names.{element_total, AreInRange}
@@ -121,7 +121,7 @@ pub record DeclsFault (ds : List Decl) (fault : NameFault) : Type 0 where
 
 -- The first fault of a program: over 1024 declarations; else that of the declarations; else that of the uses.
 pub data Faults (p : Program) : NameFault → Type 0 where
-  many : 1024 < length p.decls → Faults p (f.TooManyNames (min (length p.decls) (2 ^ 32 - 1)))
-  decls : {fault : NameFault} → length p.decls ≤ 1024 → DeclsFault p.decls fault → Faults p fault
-  body : {fault : NameFault} (names : List Entry) → length p.decls ≤ 1024 → AreDeclared p.decls names → AreInRange names →
+  many : MOST_NAMES < length p.decls → Faults p (f.TooManyNames (min (length p.decls) (2 ^ 32 - 1)))
+  decls : {fault : NameFault} → length p.decls ≤ MOST_NAMES → DeclsFault p.decls fault → Faults p fault
+  body : {fault : NameFault} (names : List Entry) → length p.decls ≤ MOST_NAMES → AreDeclared p.decls names → AreInRange names →
       UsesFault names (body_uses p.body) fault → Faults p fault

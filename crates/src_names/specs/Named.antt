@@ -1,5 +1,6 @@
 -- Which resolved program a tree is named by.
 use Rattle.std.specs.Prelude.{◌≡◌, ℕ, ◌≤◌, ℤ, List, [], ◌∷◌, Some, slice_get, length}
+use Rattle.bm_base.specs.declared.limits.TheConstants.{MOST_NAMES}
 use Rattle.bm_base.specs.declared.word.Un.{Un}
 use Rattle.bm_base.specs.declared.word.Bin.{Bin}
 use Rattle.bm_base.specs.declared.names.Kind.TheVariants as k
@@ -58,7 +59,7 @@ module _ (names : List Entry) where
 -- The tree is named by the resolved program: at most 1024 declarations, no name twice, sizes of arrays in range, and each use declared,
 -- of the right kind, and replaced by its number.
 pub record IsNamed (p : Program) (r : RProgram) : Type 0 where
-  pub few : length r.names ≤ 1024
+  pub few : length r.names ≤ MOST_NAMES
   pub declared : AreDeclared p.decls r.names
   pub range : AreInRange r.names
   pub body : NamedBody r.names p.body r.body

@@ -1,5 +1,6 @@
 -- How many nodes and statements there are.
 use Rattle.std.specs.Prelude.{ℕ, ◌+◌, ◌≤◌, List, [], ◌∷◌, map}
+use Rattle.bm_base.specs.declared.limits.TheConstants.{MOST_NODES}
 use Rattle.src_names.specs.declared.resolved.RExpr.{RExpr, RExpr-F}
 use Rattle.src_names.specs.declared.resolved.RExpr.TheFolds.{fold-RExpr}
 use Rattle.src_names.specs.declared.resolved.RStmt.{RStmt, RStmt-F}
@@ -20,11 +21,11 @@ nodes = fold-RExpr ℕ nodes_step
 mutual
   -- The statement has at most 120 nodes, and so has each in its bodies. An assigned variable or element is none.
   pub data FewNodes : RStmt → Type 0 where
-    assign : {id : ℕ} {x : RExpr} → nodes x ≤ 120 → FewNodes (rs.Assign id x)
-    set : {id : ℕ} {i x : RExpr} → nodes i + nodes x ≤ 120 → FewNodes (rs.SetElement id i x)
-    print : {x : RExpr} → nodes x ≤ 120 → FewNodes (rs.Print x)
-    choose : {x : RExpr} {ys ns : List RStmt} → nodes x ≤ 120 → AllFewNodes ys → AllFewNodes ns → FewNodes (rs.If x ys ns)
-    repeat : {x : RExpr} {ys : List RStmt} → nodes x ≤ 120 → AllFewNodes ys → FewNodes (rs.While x ys)
+    assign : {id : ℕ} {x : RExpr} → nodes x ≤ MOST_NODES → FewNodes (rs.Assign id x)
+    set : {id : ℕ} {i x : RExpr} → nodes i + nodes x ≤ MOST_NODES → FewNodes (rs.SetElement id i x)
+    print : {x : RExpr} → nodes x ≤ MOST_NODES → FewNodes (rs.Print x)
+    choose : {x : RExpr} {ys ns : List RStmt} → nodes x ≤ MOST_NODES → AllFewNodes ys → AllFewNodes ns → FewNodes (rs.If x ys ns)
+    repeat : {x : RExpr} {ys : List RStmt} → nodes x ≤ MOST_NODES → AllFewNodes ys → FewNodes (rs.While x ys)
 
   pub data AllFewNodes : List RStmt → Type 0 where
     none : AllFewNodes []

@@ -7,7 +7,7 @@ ghost use Rattle.src_names.specs.Fault.{DeclFault, DeclsFault};
 ghost use Rattle.src_names.specs.Adding.{cut_of, kind_of, size_of};
 
 use crate::fault::NameFault;
-use bm_base::{Kind, Names, NamesFault};
+use bm_base::{Kind, MOST_NAMES, Names, NamesFault};
 use src_tree::{Decl, Ident};
 
 /// The declared name.
@@ -55,7 +55,7 @@ fn size(decl: &Decl) -> i64
 
 /// Declares one more name behind those of the earlier declarations.
 fn declare(names: &mut Names, earlier: &[Decl], decl: &Decl) -> Result<(), NameFault>
-    requires few { length names.old < 1024 }
+    requires few { length names.old < MOST_NAMES }
     requires well { IsNamedWell decl.now }
     requires declared { AreDeclared earlier.now names.old }
     requires range { AreInRange names.old }
@@ -82,7 +82,7 @@ fn declare(names: &mut Names, earlier: &[Decl], decl: &Decl) -> Result<(), NameF
 
 /// Declares all names, in order.
 pub(crate) fn declare_all(names: &mut Names, decls: &[Decl]) -> Result<(), NameFault>
-    requires few { length decls.now ≤ 1024 }
+    requires few { length decls.now ≤ MOST_NAMES }
     requires none { names.old ≡ [] }
     requires well { AreNamedWell decls.now }
     ensures ok { OnOk result (AreDeclared decls.now names.new) }

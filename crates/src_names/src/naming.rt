@@ -17,7 +17,7 @@ use std::alloc::Global;
 
 /// The resolved program of a tree of at most 1024 declarations.
 fn name_program(alloc: Global, program: &Program) -> Result<Resolved, NameFault>
-    requires few { length program.now.decls ≤ 1024 }
+    requires few { length program.now.decls ≤ MOST_NAMES }
     requires well { AreNamedWell program.now.decls }
     ensures ok { IfOk result (λ r. IsNamed program.now r) }
     ensures err { IfErr result (λ e. (e ≢ NameFault.Memory) → Faults program.now e) }

@@ -1,5 +1,6 @@
 -- Which tokens could come, and the first fault. All of it is said by the grammar and the limits alone.
 use Rattle.std.specs.Prelude.{◌≡◌, ℕ, ◌<◌, ◌≤◌, pos, List, [], ◌∷◌, ◌++◌, length}
+use Rattle.bm_base.specs.declared.limits.TheConstants.{MOST_NODES, MOST_DEPTH}
 use Rattle.src_lexer.specs.declared.token.Keyword.TheVariants as w
 use Rattle.src_lexer.specs.declared.token.Symbol.{Symbol}
 use Rattle.src_lexer.specs.declared.token.Symbol.TheVariants as y
@@ -62,10 +63,10 @@ module _ (src : List ℕ) where
   abbrev pub Here : List Token → List Token → ParseFault → Type 0
   Here front [] (f.Expected at what) = (at ≡ length src) × ((p : Program) → Derives src front p → ⊥) × Wants front what
   Here front (t ∷ ts) (f.Expected at what) = (at ≡ t.at) × ¬ Begins (front ++ t ∷ []) × Wants front what
-  Here front (t ∷ ts) (f.TooDeep at) = (at ≡ t.at) × Begins (front ++ t ∷ []) × (64 < depth (front ++ t ∷ []))
+  Here front (t ∷ ts) (f.TooDeep at) = (at ≡ t.at) × Begins (front ++ t ∷ []) × (MOST_DEPTH < depth (front ++ t ∷ []))
   Here front (t ∷ ts) (f.TooManyNodes at first) =
       (at ≡ t.at) × (first ≡ place_of_first (current (front ++ t ∷ []))) × Begins (front ++ t ∷ [])
-      × (depth (front ++ t ∷ []) ≤ 64) × (120 < nodes (front ++ t ∷ []))
+      × (depth (front ++ t ∷ []) ≤ MOST_DEPTH) × (MOST_NODES < nodes (front ++ t ∷ []))
   Here front _ _ = ⊥
 
   -- The first fault of the tokens: some program begins with those before it, and they keep the limits.

@@ -51,9 +51,9 @@ fn turn(
     requires low { token.at ≤ token.end }
     requires high { token.end ≤ length src.now }
     requires plain { IsPlain token }
-    requires depth { counted.old.depth ≤ 64 }
-    requires signs { counted.old.signs ≤ 64 }
-    requires nodes { counted.old.nodes ≤ 120 }
+    requires depth { counted.old.depth ≤ MOST_DEPTH }
+    requires signs { counted.old.signs ≤ MOST_DEPTH }
+    requires nodes { counted.old.nodes ≤ MOST_NODES }
     ensures goes { OnOk result (Goes src.now state.old counted.old token state.new counted.new) }
     ensures stops { IfErr result (λ e. Stops src.now state.old counted.old token e) }
 {

@@ -1,6 +1,7 @@
 -- The limits on depth and on a statement's nodes, as counts over tokens. They do not know the grammar. A declaration's tokens are
 -- counted like a statement's, and are too few to come near a limit.
 use Rattle.std.specs.Prelude.{◌≡◌, ℕ, ◌+◌, ◌≤◌, Bool, true, false, List, [], ◌∷◌, ◌++◌, length, if◌then◌else◌}
+use Rattle.bm_base.specs.declared.limits.TheConstants.{MOST_NODES, MOST_DEPTH}
 use Rattle.src_lexer.specs.declared.token.Symbol.{Symbol}
 use Rattle.src_lexer.specs.declared.token.Symbol.TheVariants as y
 use Rattle.src_lexer.specs.declared.token.TokenKind.{TokenKind}
@@ -117,4 +118,4 @@ nodes ts = behind_first (current ts)
 
 -- the tokens keep the limits: depth 64, and 120 nodes a statement
 abbrev pub KeepsLimits : List Token → Type 0
-KeepsLimits ts = (front back : List Token) → ts ≡ front ++ back → (depth front ≤ 64) × (nodes front ≤ 120)
+KeepsLimits ts = (front back : List Token) → ts ≡ front ++ back → (depth front ≤ MOST_DEPTH) × (nodes front ≤ MOST_NODES)

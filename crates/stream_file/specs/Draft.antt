@@ -1,6 +1,7 @@
 -- What has been read of a text so far, and one line more.
 use Rattle.std.specs.Prelude.{ℕ, ◌+◌, ◌==◌, ◌&&◌, nat_le, nat_lt, Bool, true, false, if◌then◌else◌, List, [], ◌∷◌, ◌++◌, length, Option}
 use Rattle.std.specs.Prelude.{Some, None, Result, Ok, Err}
+use Rattle.bm_base.specs.declared.limits.TheConstants.{MOST_TUPLES, MOST_MASKS}
 use Rattle.bm_base.specs.declared.spec.Interval.{Interval}
 use Rattle.bm_base.specs.declared.spec.Class.{Class}
 use Rattle.bm_base.specs.declared.names.NamesFault.{NamesFault}
@@ -162,10 +163,10 @@ abbrev pub take_opening : ℕ → Draft → Option Draft
 take_opening b d = if may_open d.stage && b == length d.blocks then Some (record d { stage = at.Tuples }) else None
 
 abbrev pub take_tuple : Tuple → Draft → Option Draft
-take_tuple t d = if is_tuples d.stage && nat_lt (length d.tuples) 128 then Some (record d { tuples = d.tuples ++ t ∷ [] }) else None
+take_tuple t d = if is_tuples d.stage && nat_lt (length d.tuples) MOST_TUPLES then Some (record d { tuples = d.tuples ++ t ∷ [] }) else None
 
 abbrev pub take_mask : ℕ → Draft → Option Draft
-take_mask m d = if may_mask d.stage && nat_lt (length d.masks) 128
+take_mask m d = if may_mask d.stage && nat_lt (length d.masks) MOST_MASKS
     && fits_mask d.version m then Some (record d { stage = at.Masks; masks = d.masks ++ m ∷ [] }) else None
 
 abbrev pub with_stream : ℕ → Draft → Option (List StreamItem) → Option Draft

@@ -4,6 +4,7 @@ use Rattle.std.specs.Prelude.{map}
 use Rattle.std.specs.List.{AllByRecursion}
 use Rattle.std.specs.Int.{w64}
 use Rattle.std.specs.Int.RustNames.{FitsSigned}
+use Rattle.bm_base.specs.declared.limits.TheConstants.{MOST_TUPLES, MOST_MASKS, MOST_PROCESSORS, MOST_DELAY}
 use Rattle.bm_base.specs.declared.spec.Interval.{Interval}
 use Rattle.bm_base.specs.declared.spec.Class.{Class}
 use Rattle.bm_base.specs.declared.names.Kind.{Kind}
@@ -86,11 +87,11 @@ text_of f = unlines (lines_of f)
 
 -- version 1 and 2 have 1 to 64 processors, version 3 has 65 to 128
 abbrev pub fits_processors : ℕ → ℕ → Bool
-fits_processors version n = if version == 3 then nat_le 65 n && nat_le n 128 else nat_le 1 n && nat_le n 64
+fits_processors version n = if version == 3 then nat_le 65 n && nat_le n MOST_PROCESSORS else nat_le 1 n && nat_le n 64
 
 -- version 2 has a delay from 1 to 100, version 3 from 0 to 100
 abbrev pub fits_barrier : ℕ → ℕ → Bool
-fits_barrier version d = if version == 3 then nat_le d 100 else nat_le 1 d && nat_le d 100
+fits_barrier version d = if version == 3 then nat_le d MOST_DELAY else nat_le 1 d && nat_le d MOST_DELAY
 
 -- the masks of version 1 and 2 have 1 to 16 digits, those of version 3 up to 32
 abbrev pub fits_mask : ℕ → ℕ → Bool
@@ -136,9 +137,9 @@ AreAbove least [] = Unit {0}
 AreAbove least (s ∷ ss) = (least ≤ s.processor) × AreAbove (suc s.processor) ss
 
 pub record OpenFits (version : ℕ) (tuples : List Tuple) (masks : List ℕ) (streams : List Stream) : Type 0 where
-  pub few_tuples : length tuples ≤ 128
+  pub few_tuples : length tuples ≤ MOST_TUPLES
   pub tuples_fit : AllByRecursion TupleFits tuples
-  pub few_masks : length masks ≤ 128
+  pub few_masks : length masks ≤ MOST_MASKS
   pub masks_fit : AllByRecursion (λ m. fits_mask version m ≡ true) masks
   pub streams_fit : AllByRecursion StreamFits streams
   pub rising : AreAbove 0 streams

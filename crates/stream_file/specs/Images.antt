@@ -1,5 +1,6 @@
 -- The image of an image's fields, and why it is refused.
 use Rattle.std.specs.Prelude.{ℕ, ◌≡◌, ◌≤◌, ◌⊎◌, List, [], ◌∷◌, length, Some, None}
+use Rattle.bm_base.specs.declared.limits.TheConstants.{MOST_TUPLES, MOST_MASKS}
 use Rattle.bm_base.specs.Machine.{Machine}
 use Rattle.tuple_ir.specs.declared.block.Block.{Block}
 use Rattle.unit_law.specs.State.{Program}
@@ -83,8 +84,8 @@ IsLoadFault bytes Memory = Unit {0}
 
 -- Of private functions: what a builder asks of a block
 pub record IsGiven (b : BlockFields) : Type 0 where
-  pub few_tuples : length b.tuples ≤ 128
-  pub few_masks : length b.masks ≤ 128
+  pub few_tuples : length b.tuples ≤ MOST_TUPLES
+  pub few_masks : length b.masks ≤ MOST_MASKS
   pub rising : AreIncreasing b.streams
 
 -- what is told of the builder's fault

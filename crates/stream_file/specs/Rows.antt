@@ -2,6 +2,7 @@
 use Rattle.std.specs.Prelude.{ℕ, if◌then◌else◌, List, [], ◌∷◌, ◌++◌, Option, Some, None, codes, decimal}
 use Rattle.std.specs.Str.{bytes_eq}
 use Rattle.std.specs.Fmt.{signed_decimal}
+use Rattle.bm_base.specs.declared.limits.TheConstants.{MOST_TICKS}
 use Rattle.bm_base.specs.declared.spec.Interval.{Interval}
 use Rattle.bm_base.specs.declared.spec.Class.{Class}
 use Rattle.bm_base.specs.declared.names.Kind.{Kind}
@@ -116,8 +117,8 @@ time_of bs = do
   parts ← cut bs
   class ← class_of_word parts.0
   ends ← cut parts.1
-  least ← count_within 1 1000 ends.0
-  most ← count_within least 1000 ends.1
+  least ← count_within 1 MOST_TICKS ends.0
+  most ← count_within least MOST_TICKS ends.1
   Some (Times class (record { least = least; most = most }))
 
 abbrev pub variable_of : List ℕ → Option Row

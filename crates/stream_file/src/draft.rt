@@ -11,7 +11,10 @@ ghost use Rattle.stream_file.specs.Shown.{row};
 use crate::cuts::small;
 use crate::fault::StepFault;
 use crate::line::{Line, line_of};
-use bm_base::{Class, Interval, Kind, Mask, Names, NamesFault, Sequence, split_at_byte};
+use bm_base::{
+    Class, Interval, Kind, MOST_DELAY, MOST_MASKS, MOST_PROCESSORS, MOST_TUPLES, Mask, Names,
+    NamesFault, Sequence, split_at_byte,
+};
 use line_model::StreamItem;
 use std::alloc::Global;
 use std::mem;
@@ -140,7 +143,7 @@ fn fits_processors(version: u8, count: u8) -> bool
     ensures { result ≡ fields.fits_processors version count }
 {
     if version == 3 {
-        65 <= count && count <= 128
+        65 <= count && count <= MOST_PROCESSORS
     } else {
         1 <= count && count <= 64
     }
@@ -150,9 +153,9 @@ fn fits_barrier(version: u8, delay: u8) -> bool
     ensures { result ≡ fields.fits_barrier version delay }
 {
     if version == 3 {
-        delay <= 100
+        delay <= MOST_DELAY
     } else {
-        1 <= delay && delay <= 100
+        1 <= delay && delay <= MOST_DELAY
     }
 }
 
@@ -275,7 +278,7 @@ impl Draft {
     fn take_tuple(&mut self, tuple: Tuple) -> Result<(), StepFault>
         ensures { TakesTo (spec.take_tuple tuple) self.old self.new result }
     {
-        if matches!(self.stage, Stage::Tuples) && self.tuples.len() < 128 {
+        if matches!(self.stage, Stage::Tuples) && self.tuples.len() < MOST_TUPLES {
             match self.tuples.push(tuple) {
                 Ok(()) => Ok(()),
                 Err(_) => Err(StepFault::Memory),
@@ -289,7 +292,7 @@ impl Draft {
         ensures { TakesTo (spec.take_mask mask) self.old self.new result }
     {
         if matches!(self.stage, Stage::Tuples | Stage::Masks)
-            && self.masks.len() < 128
+            && self.masks.len() < MOST_MASKS
             && fits_mask(self.version, mask)
         {
             self.stage = Stage::Masks;

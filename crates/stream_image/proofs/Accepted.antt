@@ -1,5 +1,5 @@
 -- What is accepted is held, and what a line gives is held.
-use Rattle.std.proofs.Common.{◌≡◌, ℕ, zero, suc, ◌+◌, ◌-◌, ◌<◌, ◌≤◌, ◌^◌, Bool, true, false, nat_eq, List, [], ◌∷◌, ◌++◌, map, All, Contains, length, Option, Some, None, Result, Ok, Err, OnOk, OnErr, refl, sym, ap, ap₂, ◌∙◌, arith, ◌⊎◌, inl, inr, subst, eq-eqb, cond}
+use Rattle.std.proofs.Common.{◌≡◌, ℕ, zero, suc, ◌+◌, ◌-◌, ◌<◌, ◌≤◌, ◌^◌, Bool, true, false, nat_eq, List, [], ◌∷◌, ◌++◌, map, All, length, Option, Some, None, Result, Ok, Err, OnOk, OnErr, refl, sym, ap, ap₂, ◌∙◌, arith, ◌⊎◌, inl, inr, subst, eq-eqb, cond}
 use Rattle.std.specs.Prelude.{◌==◌, nat_lt}
 use Rattle.std.specs.List.{AllByRecursion}
 use Rattle.std.proofs.lemmas.Bool.{cases_lt}
@@ -19,7 +19,7 @@ use Rattle.line_model.specs.declared.line.StreamItem.{StreamItem}
 use Rattle.line_model.specs.declared.line.StreamItem.TheVariants.{Do, Wait}
 use Rattle.line_model.specs.Streams.{stream, masks, own}
 use Rattle.time_interval.specs.Bounds.{pace_on}
-use Rattle.time_interval.specs.Lines.{IsItem, IsLine, tuples}
+use Rattle.time_interval.specs.Lines.{IsItem, tuples}
 use Rattle.time_interval.specs.Laws.{AreAlike}
 use Rattle.time_interval.proofs.AlikeOrder.{alike_order}
 use Rattle.time_interval.proofs.Once.{stand_once}
@@ -40,10 +40,11 @@ use Rattle.stream_image.specs.Refused.IsOrderFault.{turned, loose}
 use Rattle.stream_image.proofs.OrderPairs.{never_both}
 use Rattle.stream_image.proofs.Once.{some_none}
 use Rattle.stream_image.specs.Refused.{IsRefused, line_in, IsAccepted, bad_target, target_at, target_from}
+use Rattle.stream_image.specs.Sorted.{AreLined}
 use Rattle.stream_image.proofs.Keeping.{keeps_all}
 use Rattle.stream_image.proofs.LineStreams.{AreEven, stream_is, stream_past, masks_are, line_same, even_line}
 use Rattle.stream_image.proofs.LineCounts.{IsBelow, total, line_count, line_items, distinct_of, count_distinct, contains_of, count_contains}
-use Rattle.stream_image.proofs.LineKept.{tuple_sound, cell_sound, even, line_is, all_stand}
+use Rattle.stream_image.proofs.LineKept.{tuple_sound, cell_sound, even, line_is, all_stand, mask_items}
 use Rattle.stream_image.proofs.ImageFacts.{each_push, long_map}
 
 pub accepted_held : (m : Program) (block : Block) (ss : List Stream) (ms : List ℕ) → m.machine.processors ≤ 128 → AreItems ss → AreIncreasing ss → length block.tuples ≤ 128 → length ms ≤ 128 → IsAccepted m block ss ms → IsHeld m.machine m.names (record { block = block; streams = ss; masks = ms })
@@ -253,11 +254,15 @@ line_pushed machine names block line held new ss ms m (Ok u) ok v e f =
 pub told : (o : Option BlockFault) (names : List Entry) (n m : ℕ) (ts us : List Tuple) (next : Next) (ss : List Stream) (ms : List ℕ) → o ≡ first_fault names m us next ss ms → m ≡ n → us ≡ ts → o ≡ first_fault names n ts next ss ms
 told o names n m ts us next ss ms e f g = e ∙ ap₂ (λ k (xs : List Tuple). first_fault names k xs next ss ms) f g
 
-pub line_told : (names : List Entry) (n m : ℕ) (block : Block) (ss : List Stream) (ms : List ℕ) (items : List Item) → first_fault names n block.tuples block.next ss ms ≡ None → items ≡ line_of m (items_of ss) ms → m ≡ n → m ≤ 128 → AreItems ss → AreIncreasing ss → length block.tuples ≤ 128 → length ms ≤ 128 → IsLine (length block.tuples) n items × ((t : ℕ) → t < length block.tuples → Contains (tuples items) t)
-line_told names n m block ss ms items h e f most bytes up few short =
+pub lined_told : (names : List Entry) (n : ℕ) (block : Block) (ss : List Stream) (ms : List ℕ) → first_fault names n block.tuples block.next ss ms ≡ None → n ≤ 128 → AreItems ss → AreIncreasing ss → length block.tuples ≤ 128 → length ms ≤ 128 → AreLined (length block.tuples) n ss ms
+lined_told names n block ss ms h most bytes up few short =
     let k = keeps_all names n block.tuples block.next ss ms bytes h in
-    let same : items ≡ line_of n (items_of ss) ms = e ∙ ap (λ x. line_of x (items_of ss) ms) f in
-    (subst (IsLine (length block.tuples) n) (sym same) (line_is k bytes up few (subst (λ x. x ≤ 128) f most) short), λ t l. subst (λ (l : List Item). Contains (tuples l) t) (sym same) (all_stand k bytes up few t l))
+    record {
+      given = record { few = most; increasing = up; within = k.within; masks_fit = mask_items 0 n ms most k.some k.own; few_masks = short };
+      even = even k bytes up few;
+      line = line_is k bytes up few most short;
+      stand = all_stand k bytes up few;
+    }
 
 pub not_both : (m : Program) (block : Block) (ss : List Stream) (ms : List ℕ) (fault : ImageFault) → IsRefused m block ss ms fault → IsAccepted m block ss ms → ⊥
 not_both m block ss ms fault (unkept f e g) h = absurd (some_none (sym e ∙ h.kept))

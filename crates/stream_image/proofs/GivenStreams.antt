@@ -20,10 +20,10 @@ same q p h = grind (arith, nat_tests)
 true_same : (q p : ℕ) → (q == p) ≡ true → q ≡ p
 true_same q p h = grind (arith, nat_tests)
 
-abbrev AreBelow : ℕ → List Stream → Type 0
+abbrev pub AreBelow : ℕ → List Stream → Type 0
 AreBelow p ss = AllByRecursion (λ (s : Stream). s.processor < p) ss
 
-none_own : (p : ℕ) (ss : List Stream) → AreBelow p ss → items_of ss p ≡ []
+pub none_own : (p : ℕ) (ss : List Stream) → AreBelow p ss → items_of ss p ≡ []
 none_own p [] h = refl
 none_own p (s ∷ ss) h = ap (λ b. if b then s.items else items_of ss p) (apart s.processor p (λ e. let l : s.processor < p = h.0 in omega arith)) ∙ none_own p ss h.1
 

@@ -17,4 +17,4 @@ pub mod Again
 pub mod FlatLists
 pub mod ColumnFacts
 pub mod ShelfFacts
-pub mod WalkFacts
+pub mod SortedFacts

@@ -113,7 +113,7 @@ mask_item c n m few some own = (low_bit m (let z : 0 < m = pos m some in z) (let
     below p (inl l) e = l
     below p (inr l) e = absurd (true≢false (sym e ∙ no_bit n m p own l))
 
-mask_items : (c n : ℕ) (ms : List ℕ) → n ≤ 128 → AllByRecursion (λ (m : ℕ). m ≡ 0 → ⊥) ms → AllByRecursion (λ (m : ℕ). m < 2 ^ n) ms → AllByRecursion (λ m. IsItem c n (Bar m)) ms
+pub mask_items : (c n : ℕ) (ms : List ℕ) → n ≤ 128 → AllByRecursion (λ (m : ℕ). m ≡ 0 → ⊥) ms → AllByRecursion (λ (m : ℕ). m < 2 ^ n) ms → AllByRecursion (λ m. IsItem c n (Bar m)) ms
 mask_items c n [] few some own = tt
 mask_items c n (m ∷ ms) few some own = (mask_item c n m few some.0 own.0, mask_items c n ms few some.1 own.1)
 

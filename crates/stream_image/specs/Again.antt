@@ -1,6 +1,7 @@
 -- An image's own blocks, given again.
 use Rattle.std.specs.Prelude.{◌≡◌, ℕ, ◌+◌, ◌<◌, ◌≤◌, List, [], length, take, None}
 use Rattle.std.specs.List.{AllByRecursion}
+use Rattle.bm_base.specs.declared.limits.TheConstants.{MOST_TUPLES, MOST_MASKS}
 use Rattle.line_model.specs.declared.line.Item.{Item}
 use Rattle.line_model.specs.Streams.{stream, masks}
 use Rattle.unit_law.specs.State.{Program, code_at}
@@ -22,8 +23,8 @@ pub record AreStreamsOf (processors : ℕ) (line : List Item) (streams : List St
 
 -- block b of an image with its streams and masks, given again behind the blocks before it
 pub record IsTakenAgain (m : Program) (b : ℕ) (streams : List Stream) : Type 0 where
-  pub few_tuples : length (code_at m b).tuples ≤ 128
-  pub few_masks : length (masks (code_at m b).line) ≤ 128
+  pub few_tuples : length (code_at m b).tuples ≤ MOST_TUPLES
+  pub few_masks : length (masks (code_at m b).line) ≤ MOST_MASKS
   -- nothing refuses it
   pub accepted : IsAccepted (first_blocks m b) (block_of (code_at m b)) streams (masks (code_at m b).line)
   -- and the image has it next

@@ -1,5 +1,6 @@
 -- What an image keeps: the stream invariant.
 use Rattle.std.specs.Prelude.{◌≡◌, ℕ, ◌<◌, ◌≤◌, List, [], ◌∷◌, ◌++◌, length, Contains, Some, slice_get}
+use Rattle.bm_base.specs.declared.limits.TheConstants.{MOST_TUPLES, MOST_PROCESSORS}
 use Rattle.bm_base.specs.Machine.{Machine}
 use Rattle.bm_base.specs.Spec.{time_of}
 use Rattle.bm_base.specs.Entry.{Entry}
@@ -23,7 +24,7 @@ use Rattle.stream_image.specs.Line.{items_of, line_of, IsOwnLine}
 -- a machine of 1 to 128 processors on which each tuple takes one tick at least, and its least time is at most its greatest one
 pub record IsLawful (machine : Machine) : Type 0 where
   pub some : 1 ≤ machine.processors
-  pub few : machine.processors ≤ 128
+  pub few : machine.processors ≤ MOST_PROCESSORS
   pub times : (t : Tuple) →
       (0 < (time_of machine (class_of t)).least) × ((time_of machine (class_of t)).least ≤ (time_of machine (class_of t)).most)
 
@@ -40,7 +41,7 @@ pub record IsImage (m : Program) : Type 0 where
 
 -- a block with a line keeps the stream invariant, wherever its next leads
 pub record IsKept (machine : Machine) (names : List Entry) (block : Block) (line : List Item) : Type 0 where
-  pub few : length block.tuples ≤ 128
+  pub few : length block.tuples ≤ MOST_TUPLES
   pub operands : (i : ℕ) (tuple : Tuple) → slice_get block.tuples i ≡ Some tuple → IsTupleSound names block.tuples i tuple
   pub cell : asks_value block.tuples block.next
   pub is_line : IsLine (length block.tuples) machine.processors line

@@ -1,14 +1,15 @@
+-- The definitions, in the order in which to read them.
 pub mod Line
 pub mod Check
-pub mod Firsts
 pub mod Keeps
+pub mod Firsts
 pub mod Image
-pub mod Laws
 pub mod Order
-pub mod Rest
 pub mod Refused
+pub mod Laws
+pub mod Rest
+pub mod Flat
 pub mod Held
 pub mod Again
-pub mod Flat
 pub mod Columns
-pub mod Walk
+pub mod Sorted

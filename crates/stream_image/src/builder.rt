@@ -12,10 +12,9 @@ use crate::check::first_fault;
 use crate::fault::{ImageFault, in_block};
 use crate::given::Stream;
 use crate::image::{Image, machine_is_lawful};
-use crate::line::line_of;
 use crate::order::order_fault;
 use crate::shelf::Shelf;
-use bm_base::{Mask, Names, Spec};
+use bm_base::{MOST_MASKS, MOST_TUPLES, Mask, Names, Spec};
 use line_model::Line;
 use std::alloc::{AllocError, Global};
 use std::marker::Model;
@@ -68,8 +67,8 @@ impl ImageBuilder {
         streams: &[Stream],
         masks: &[Mask],
     ) -> Result<(), ImageFault>
-        requires tuples { length block.tuples ≤ 128 }
-        requires masks { length masks.now ≤ 128 }
+        requires tuples { length block.tuples ≤ MOST_TUPLES }
+        requires masks { length masks.now ≤ MOST_MASKS }
         requires increasing { AreIncreasing streams.now }
         requires room { length self.old.blocks < 2 ^ 32 - 1 }
         ensures ok { OnOk result (self.new ≡ with_streams self.old block streams.now masks.now) }
@@ -90,10 +89,7 @@ impl ImageBuilder {
         ) {
             return Err(in_block(number, fault));
         }
-        let Ok(line) = line_of(self.alloc, n, streams, masks) else {
-            return Err(ImageFault::Memory);
-        };
-        match order_fault(self.alloc, number, &block, &line, &self.spec) {
+        match order_fault(self.alloc, number, &block, streams, masks, &self.spec) {
             Ok(None) => {}
             Ok(Some(fault)) => return Err(fault),
             Err(_) => return Err(ImageFault::Memory),
@@ -107,8 +103,8 @@ impl ImageBuilder {
     /// Holds one block more with its streams and masks; want of memory changes nothing.
     fn hold(&mut self, block: &Block, streams: &[Stream], masks: &[Mask]) -> Result<(), AllocError>
         requires accepted { IsAccepted self.old block.now streams.now masks.now }
-        requires tuples { length block.now.tuples ≤ 128 }
-        requires masks { length masks.now ≤ 128 }
+        requires tuples { length block.now.tuples ≤ MOST_TUPLES }
+        requires masks { length masks.now ≤ MOST_MASKS }
         requires increasing { AreIncreasing streams.now }
         requires room { length self.old.blocks < 2 ^ 32 - 1 }
         ensures ok { OnOk result (self.new ≡ with_streams self.old block.now streams.now masks.now) }

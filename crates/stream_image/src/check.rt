@@ -4,7 +4,7 @@ ghost use Rattle.stream_image.specs.Check as spec;
 
 use crate::fault::BlockFault;
 use crate::given::Stream;
-use bm_base::{Kind, Mask, Names};
+use bm_base::{Kind, MOST_MASKS, MOST_PROCESSORS, MOST_TUPLES, Mask, Names};
 use line_model::StreamItem;
 use tuple_ir::{Next, Tuple, gives_value};
 
@@ -145,7 +145,7 @@ fn bad_place(names: &Names, tuples: &[Tuple], i: usize, tuple: Tuple) -> Option<
 
 /// The first operand that is not of the right kind.
 fn operand(names: &Names, tuples: &[Tuple]) -> Option<BlockFault>
-    requires { length tuples.now ≤ 128 }
+    requires { length tuples.now ≤ MOST_TUPLES }
     ensures { result ≡ spec.operand_from names.now tuples.now 0 tuples.now }
 {
     for (i, tuple) in tuples.iter().enumerate() {
@@ -198,7 +198,7 @@ fn waits_of(processor: u8, streams: &[Stream]) -> u64
 
 /// The masks that have the processor.
 fn masks_of(processor: u8, masks: &[Mask]) -> u8
-    requires { length masks.now ≤ 128 }
+    requires { length masks.now ≤ MOST_MASKS }
     ensures { result ≡ spec.masks_of processor masks.now }
 {
     let mut count = 0;
@@ -212,7 +212,7 @@ fn masks_of(processor: u8, masks: &[Mask]) -> u8
 
 /// The first processor whose waits are not as many as its masks.
 fn waits(processors: u8, streams: &[Stream], masks: &[Mask]) -> Option<BlockFault>
-    requires { length masks.now ≤ 128 }
+    requires { length masks.now ≤ MOST_MASKS }
     ensures { result ≡ spec.waits_from 0 processors streams.now masks.now }
 {
     for processor in 0..processors {
@@ -231,7 +231,7 @@ fn waits(processors: u8, streams: &[Stream], masks: &[Mask]) -> Option<BlockFaul
 
 /// The first mask without a processor.
 fn empty(masks: &[Mask]) -> Option<BlockFault>
-    requires { length masks.now ≤ 128 }
+    requires { length masks.now ≤ MOST_MASKS }
     ensures { result ≡ spec.empty_from 0 masks.now }
 {
     for (j, mask) in masks.iter().enumerate() {
@@ -247,12 +247,12 @@ fn has_foreign(processors: u8, mask: Mask) -> bool
     ensures { result ≡ not (mask / 2 ^ processors == 0) }
 {
     let number = mask.number();
-    processors < 128 && number >> processors != 0
+    processors < MOST_PROCESSORS && number >> processors != 0
 }
 
 /// The first mask with a processor that the machine lacks.
 fn foreign_bit(processors: u8, masks: &[Mask]) -> Option<BlockFault>
-    requires { length masks.now ≤ 128 }
+    requires { length masks.now ≤ MOST_MASKS }
     ensures { result ≡ spec.bit_from processors 0 masks.now }
 {
     for (j, mask) in masks.iter().enumerate() {
@@ -273,8 +273,8 @@ pub(crate) fn first_fault(
     streams: &[Stream],
     masks: &[Mask],
 ) -> Option<BlockFault>
-    requires tuples { length tuples.now ≤ 128 }
-    requires masks { length masks.now ≤ 128 }
+    requires tuples { length tuples.now ≤ MOST_TUPLES }
+    requires masks { length masks.now ≤ MOST_MASKS }
     ensures { result ≡ spec.first_fault names.now processors tuples.now next streams.now masks.now }
 {
     if let Some(fault) = foreign(processors, streams) {

@@ -15,10 +15,10 @@ mod line;
 mod lists;
 mod order;
 mod shelf;
+mod sorted;
 mod stream_list;
 #[cfg(test)]
 mod tests;
-mod walk;
 
 pub use builder::ImageBuilder;
 pub use fault::{BlockFault, ImageFault};

@@ -10,7 +10,7 @@ use line_model::{Item, Items, Line, StreamItem};
 use std::alloc::{AllocError, Global};
 
 /// How many items of its stream each processor has behind it.
-type Places = [usize; MOST_PROCESSORS as usize];
+pub(crate) type Places = [usize; MOST_PROCESSORS as usize];
 
 /// The items of a processor: none where no stream is its own.
 pub(crate) fn items_of(streams: &[Stream], p: u8) -> &[StreamItem]
@@ -51,7 +51,7 @@ fn put_members(
     places: &mut Places,
     mask: Mask,
 ) -> Result<(), AllocError>
-    requires { n ≤ 128 }
+    requires { n ≤ MOST_PROCESSORS }
     ensures runs { OnOk result (items.new ≡ items.old ++ spec.ahead n (has_bit mask) (rest_of streams.now places.old)) }
     ensures left { OnOk result ((p : ℕ) → p < n → rest_of streams.now places.new p ≡ spec.passed mask (rest_of streams.now places.old) p) }
 {
@@ -65,7 +65,7 @@ fn put_members(
 
 /// Puts the tuples that are left at the line's end.
 fn put_rest(items: &mut Items, n: u8, streams: &[Stream], places: &Places) -> Result<(), AllocError>
-    requires { n ≤ 128 }
+    requires { n ≤ MOST_PROCESSORS }
     ensures { OnOk result (items.new ≡ items.old ++ spec.line_of n (rest_of streams.now places.now) []) }
 {
     for p in 0..n {
@@ -75,7 +75,7 @@ fn put_rest(items: &mut Items, n: u8, streams: &[Stream], places: &Places) -> Re
 }
 
 /// Nobody has an item behind it.
-fn no_places() -> Places
+pub(crate) fn no_places() -> Places
     ensures { (p : ℕ) → get_or result p 0 ≡ 0 }
 {
     [0; MOST_PROCESSORS as usize]
@@ -88,7 +88,7 @@ pub(crate) fn line_of(
     streams: &[Stream],
     masks: &[Mask],
 ) -> Result<Line, AllocError>
-    requires { n ≤ 128 }
+    requires { n ≤ MOST_PROCESSORS }
     ensures { IfOk result (λ line. line.items ≡ spec.line_of n (spec.items_of streams.now) masks.now) }
 {
     let mut items = Items::new(alloc);

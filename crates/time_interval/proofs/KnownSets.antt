@@ -3,7 +3,7 @@ use Rattle.std.proofs.Common.{◌≡◌, ℕ, suc, ◌+◌, ◌^◌, Bool, true,
 use Rattle.bm_base.specs.Mask.{has_bit}
 use Rattle.bm_base.proofs.MaskBits.{has_bit-none, has_bit-and, has_bit-insert}
 use Rattle.time_interval.specs.Knows.{Knows, all_know, past_bar_knows, knows_nothing}
-use Rattle.time_interval.specs.Members.{IsNextMember}
+use Rattle.time_interval.specs.Members.{IsNextBelow}
 use Rattle.time_interval.specs.Sets.{set_at, seen_by}
 use Rattle.time_interval.proofs.MemberFacts.{first_is, next_is}
 use Rattle.time_interval.proofs.SetFacts.{seen_none}
@@ -15,10 +15,10 @@ knows_none = λ i. record { bars = 0; fired = λ r. has_bit-none r i; up = seen_
 all_step : (m fired : ℕ) (ups : List ℕ) (r n : ℕ) → has_bit m n ≡ false → all_know (suc n) m (has_bit fired) (seen_by ups) r ≡ all_know n m (has_bit fired) (seen_by ups) r
 all_step m fired ups r n h = ap (λ b. if b then all_know n m (has_bit fired) (seen_by ups) r && seen_by ups n r else all_know n m (has_bit fired) (seen_by ups) r) h
 
-pub all_first : (m fired : ℕ) (ups : List ℕ) (end p : ℕ) → IsNextMember m 0 end p → (r : ℕ) → has_bit fired r ≡ all_know p m (has_bit fired) (seen_by ups) r
+pub all_first : (m fired : ℕ) (ups : List ℕ) (end p : ℕ) → IsNextBelow m 0 end p → (r : ℕ) → has_bit fired r ≡ all_know p m (has_bit fired) (seen_by ups) r
 all_first m fired ups end p h r = sym (first_is (λ n. all_know n m (has_bit fired) (seen_by ups) r) m (all_step m fired ups r) end p h)
 
-pub all_next : (m fired : ℕ) (ups : List ℕ) (end n p u : ℕ) → IsNextMember m (n + 1) end p → has_bit m n ≡ true → ((r : ℕ) → has_bit u r ≡ all_know n m (has_bit fired) (seen_by ups) r) → (r : ℕ) → has_bit (bit_and u (set_at ups n)) r ≡ all_know p m (has_bit fired) (seen_by ups) r
+pub all_next : (m fired : ℕ) (ups : List ℕ) (end n p u : ℕ) → IsNextBelow m (n + 1) end p → has_bit m n ≡ true → ((r : ℕ) → has_bit u r ≡ all_know n m (has_bit fired) (seen_by ups) r) → (r : ℕ) → has_bit (bit_and u (set_at ups n)) r ≡ all_know p m (has_bit fired) (seen_by ups) r
 all_next m fired ups end n p u h e s r =
     has_bit-and u (set_at ups n) r ∙ ap (λ x. x && seen_by ups n r) (s r) ∙ ap (λ b. if b then all_know n m (has_bit fired) (seen_by ups) r && seen_by ups n r else all_know n m (has_bit fired) (seen_by ups) r) (sym e) ∙ sym (next_is (λ k. all_know k m (has_bit fired) (seen_by ups) r) m (all_step m fired ups r) end n p h)
 

@@ -1,54 +1,10 @@
 -- The members of a mask, one after the other.
-use Rattle.std.proofs.Common.{◌≡◌, ℕ, zero, suc, ◌+◌, ◌-◌, ◌/◌, ◌%◌, ◌^◌, ◌<◌, ◌≤◌, Bool, true, false, nat_eq, nat_lt, ◌&&◌, Option, None, refl, sym, ap, ◌∙◌, arith, ◌⊎◌, inl, inr, subst, add-one, eqb-true, if◌then◌else◌}
-use Rattle.std.proofs.Math.Nat.{div-div-eq-div-mul}
-use Rattle.std.proofs.lemmas.Nat.{pow-add}
-use Rattle.std.proofs.lemmas.Nat.Bits.{bit_at-trailing_zeros}
+use Rattle.std.proofs.Common.{◌≡◌, ℕ, zero, suc, ◌+◌, ◌<◌, ◌≤◌, Bool, true, false, nat_eq, nat_lt, ◌&&◌, Option, None, refl, sym, ap, ◌∙◌, arith, ◌⊎◌, inl, inr, subst, add-one, eqb-true, if◌then◌else◌}
 use Rattle.std.proofs.lemmas.Bool.{cases_lt}
 use Rattle.std.proofs.lemmas.Bool.Decides.{nat_tests}
-use Rattle.std.specs.Int.{w128, bit_at, trailing_zeros}
 use Rattle.bm_base.specs.Mask.{has_bit}
-use Rattle.bm_base.proofs.MaskBits.{has_bit-none}
 use Rattle.time_interval.specs.Bounds.{fire_lo, fire_up, greater_known, greater_of_both}
-use Rattle.time_interval.specs.Members.{IsNextMember}
-
--- ---- the least member from a place on
-
-shifted : (m a i : ℕ) → bit_at (m / 2 ^ a) i ≡ bit_at m (a + i)
-shifted m a i = ap (λ n. n % 2) (div-div-eq-div-mul m (2 ^ a) (2 ^ i) ∙ ap (λ k. m / k) (sym (pow-add 2 a i)))
-
--- what lies from a place on, told by the mask behind it
-lies : (P : ℕ → Type 0) (from q : ℕ) → from ≤ q → ((i : ℕ) → q ≡ from + i → P (from + i)) → P q
-lies P from q h f = let e : q ≡ from + (q - from) = omega arith in subst P (sym e) (f (q - from) e)
-
-pub none_from : (m from end rest : ℕ) → from ≤ end → rest ≡ m / 2 ^ from → rest ≡ 0 → IsNextMember m from end end
-none_from m from end rest h e z = record {
-  low = h;
-  high = omega arith;
-  skipped = λ q l _. lies (λ x. has_bit m x ≡ false) from q l (λ i _. ap (λ n. nat_eq n 1) (sym (shifted m from i)) ∙ ap (λ n. has_bit n i) (sym e ∙ z) ∙ has_bit-none i);
-  member = λ l. absurd (omega arith);
-}
-
-record IsLowest (m from t : ℕ) : Type 0 where
-  one : has_bit m (from + t) ≡ true
-  zeros : (q : ℕ) → from ≤ q → q < from + t → has_bit m q ≡ false
-
-lowest : (m from rest : ℕ) → rest ≡ m / 2 ^ from → 0 < rest → rest < 2 ^ 128 → IsLowest m from (trailing_zeros w128 rest)
-lowest m from rest e l f =
-    let t = bit_at-trailing_zeros w128 rest l f in
-    record {
-      one = ap (λ n. nat_eq n 1) (sym (shifted m from (trailing_zeros w128 rest)) ∙ ap (λ n. bit_at n (trailing_zeros w128 rest)) (sym e) ∙ t.1);
-      zeros = λ q ge lt. lies (λ x. has_bit m x ≡ false) from q ge (λ i is. ap (λ n. nat_eq n 1) (sym (shifted m from i) ∙ ap (λ n. bit_at n i) (sym e) ∙ t.2 i (omega arith)));
-    }
-
-pub next_behind : (m from end rest : ℕ) → from ≤ end → rest ≡ m / 2 ^ from → 0 < rest → rest < 2 ^ 128 → end ≤ from + trailing_zeros w128 rest → IsNextMember m from end end
-next_behind m from end rest h e l f b =
-    let z = lowest m from rest e l f in
-    record { low = h; high = omega arith; skipped = λ q ge lt. z.zeros q ge (omega arith); member = λ k. absurd (omega arith) }
-
-pub next_within : (m from end rest : ℕ) → rest ≡ m / 2 ^ from → 0 < rest → rest < 2 ^ 128 → from + trailing_zeros w128 rest < end → IsNextMember m from end (from + trailing_zeros w128 rest)
-next_within m from end rest e l f b =
-    let z = lowest m from rest e l f in
-    record { low = omega arith; high = omega arith; skipped = z.zeros; member = λ _. z.one }
+use Rattle.time_interval.specs.Members.{IsNextBelow}
 
 -- ---- what is built member by member
 
@@ -63,11 +19,11 @@ module _ {X : Type 0} (f : ℕ → X) (mask : ℕ) (step : (n : ℕ) → has_bit
       go (inr l) r = step n (none n l (omega arith)) ∙ r l (λ q a b. none q a (omega arith))
 
   -- before the first member
-  pub first_is : (end p : ℕ) → IsNextMember mask 0 end p → f p ≡ f 0
+  pub first_is : (end p : ℕ) → IsNextBelow mask 0 end p → f p ≡ f 0
   first_is end p h = skips p 0 h.low h.skipped
 
   -- behind one more
-  pub next_is : (end n p : ℕ) → IsNextMember mask (n + 1) end p → f p ≡ f (suc n)
+  pub next_is : (end n p : ℕ) → IsNextBelow mask (n + 1) end p → f p ≡ f (suc n)
   next_is end n p h = subst (λ k. f p ≡ f k) (add-one n) (skips p (n + 1) h.low h.skipped)
 
 -- what is set for the members below a place
@@ -83,30 +39,30 @@ set_step mask q n h = go (nat_eq q n) refl
 lo_step : (m : ℕ) (lo : ℕ → Option ℕ) (n : ℕ) → has_bit m n ≡ false → fire_lo (suc n) m lo ≡ fire_lo n m lo
 lo_step m lo n h = ap (λ b. if b then greater_known (fire_lo n m lo) (lo n) else fire_lo n m lo) h
 
-pub lo_first : (m : ℕ) (lo : ℕ → Option ℕ) (end p : ℕ) → IsNextMember m 0 end p → None ≡ fire_lo p m lo
+pub lo_first : (m : ℕ) (lo : ℕ → Option ℕ) (end p : ℕ) → IsNextBelow m 0 end p → None ≡ fire_lo p m lo
 lo_first m lo end p h = sym (first_is (λ n. fire_lo n m lo) m (lo_step m lo) end p h)
 
-pub lo_next : (m : ℕ) (lo : ℕ → Option ℕ) (end n p : ℕ) (g : Option ℕ) → IsNextMember m (n + 1) end p → has_bit m n ≡ true → g ≡ fire_lo n m lo → greater_known g (lo n) ≡ fire_lo p m lo
+pub lo_next : (m : ℕ) (lo : ℕ → Option ℕ) (end n p : ℕ) (g : Option ℕ) → IsNextBelow m (n + 1) end p → has_bit m n ≡ true → g ≡ fire_lo n m lo → greater_known g (lo n) ≡ fire_lo p m lo
 lo_next m lo end n p g h e s = ap (λ x. greater_known x (lo n)) s ∙ ap (λ b. if b then greater_known (fire_lo n m lo) (lo n) else fire_lo n m lo) (sym e) ∙ sym (next_is (λ n. fire_lo n m lo) m (lo_step m lo) end n p h)
 
 up_step : (m : ℕ) (fired : Option ℕ) (up : ℕ → Option ℕ) (n : ℕ) → has_bit m n ≡ false → fire_up (suc n) m fired up ≡ fire_up n m fired up
 up_step m fired up n h = ap (λ b. if b then greater_of_both (fire_up n m fired up) (up n) else fire_up n m fired up) h
 
-pub up_first : (m : ℕ) (fired : Option ℕ) (up : ℕ → Option ℕ) (end p : ℕ) → IsNextMember m 0 end p → fired ≡ fire_up p m fired up
+pub up_first : (m : ℕ) (fired : Option ℕ) (up : ℕ → Option ℕ) (end p : ℕ) → IsNextBelow m 0 end p → fired ≡ fire_up p m fired up
 up_first m fired up end p h = sym (first_is (λ n. fire_up n m fired up) m (up_step m fired up) end p h)
 
-pub up_next : (m : ℕ) (fired : Option ℕ) (up : ℕ → Option ℕ) (end n p : ℕ) (g : Option ℕ) → IsNextMember m (n + 1) end p → has_bit m n ≡ true → g ≡ fire_up n m fired up → greater_of_both g (up n) ≡ fire_up p m fired up
+pub up_next : (m : ℕ) (fired : Option ℕ) (up : ℕ → Option ℕ) (end n p : ℕ) (g : Option ℕ) → IsNextBelow m (n + 1) end p → has_bit m n ≡ true → g ≡ fire_up n m fired up → greater_of_both g (up n) ≡ fire_up p m fired up
 up_next m fired up end n p g h e s = ap (λ x. greater_of_both x (up n)) s ∙ ap (λ b. if b then greater_of_both (fire_up n m fired up) (up n) else fire_up n m fired up) (sym e) ∙ sym (next_is (λ n. fire_up n m fired up) m (up_step m fired up) end n p h)
 
 -- ---- what is put at each member
 
-pub put_first : (m end p q : ℕ) → IsNextMember m 0 end p → (nat_lt q p && has_bit m q) ≡ false
+pub put_first : (m end p q : ℕ) → IsNextBelow m 0 end p → (nat_lt q p && has_bit m q) ≡ false
 put_first m end p q h = first_is (λ n. nat_lt q n && has_bit m q) m (set_step m q) end p h ∙ none
   where
     none : (nat_lt q 0 && has_bit m q) ≡ false
     none = grind (arith, nat_tests)
 
-pub put_next : {Y : Type 0} (m end n p q : ℕ) (y old cur new : Y) → IsNextMember m (n + 1) end p → has_bit m n ≡ true → cur ≡ (if nat_lt q n && has_bit m q then y else old) → new ≡ (if nat_eq n q then y else cur) → new ≡ (if nat_lt q p && has_bit m q then y else old)
+pub put_next : {Y : Type 0} (m end n p q : ℕ) (y old cur new : Y) → IsNextBelow m (n + 1) end p → has_bit m n ≡ true → cur ≡ (if nat_lt q n && has_bit m q then y else old) → new ≡ (if nat_eq n q then y else cur) → new ≡ (if nat_lt q p && has_bit m q then y else old)
 put_next m end n p q y old cur new h e s t = go (nat_eq n q) refl ∙ ap (λ b. if b then y else old) (sym (next_is (λ n. nat_lt q n && has_bit m q) m (set_step m q) end n p h))
   where
     at : nat_eq n q ≡ true → (nat_lt q (suc n) && has_bit m q) ≡ true

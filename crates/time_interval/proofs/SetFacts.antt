@@ -5,7 +5,7 @@ use Rattle.std.proofs.lemmas.Bool.Decides.{nat_tests}
 use mathlib.Core.Path.{fun_ext}
 use Rattle.bm_base.specs.Mask.{has_bit}
 use Rattle.bm_base.proofs.MaskBits.{has_bit-none, has_bit-or, has_bit-insert}
-use Rattle.time_interval.specs.Members.{IsNextMember}
+use Rattle.time_interval.specs.Members.{IsNextBelow}
 use Rattle.time_interval.specs.Seen.{seen_of_members, past_run_seen, past_bar_seen}
 use Rattle.time_interval.specs.Sets.{set_at, seen_by}
 use Rattle.time_interval.proofs.MemberFacts.{first_is, next_is}
@@ -26,10 +26,10 @@ union_step m sets g n h = ap (λ y. seen_of_members n m (seen_by sets) g || (y &
     or_false true = refl
     or_false false = refl
 
-pub union_first : (m : ℕ) (sets : List ℕ) (end p : ℕ) → IsNextMember m 0 end p → (g : ℕ) → has_bit 0 g ≡ seen_of_members p m (seen_by sets) g
+pub union_first : (m : ℕ) (sets : List ℕ) (end p : ℕ) → IsNextBelow m 0 end p → (g : ℕ) → has_bit 0 g ≡ seen_of_members p m (seen_by sets) g
 union_first m sets end p h g = has_bit-none g ∙ sym (first_is (λ n. seen_of_members n m (seen_by sets) g) m (union_step m sets g) end p h)
 
-pub union_next : (m : ℕ) (sets : List ℕ) (end n p u : ℕ) → IsNextMember m (n + 1) end p → has_bit m n ≡ true → ((g : ℕ) → has_bit u g ≡ seen_of_members n m (seen_by sets) g) → (g : ℕ) → has_bit (bit_or u (set_at sets n)) g ≡ seen_of_members p m (seen_by sets) g
+pub union_next : (m : ℕ) (sets : List ℕ) (end n p u : ℕ) → IsNextBelow m (n + 1) end p → has_bit m n ≡ true → ((g : ℕ) → has_bit u g ≡ seen_of_members n m (seen_by sets) g) → (g : ℕ) → has_bit (bit_or u (set_at sets n)) g ≡ seen_of_members p m (seen_by sets) g
 union_next m sets end n p u h e s g =
     has_bit-or u (set_at sets n) g ∙ ap₂ (λ x y. x || (y && seen_by sets n g)) (s g) (sym e) ∙ sym (next_is (λ k. seen_of_members k m (seen_by sets) g) m (union_step m sets g) end n p h)
 

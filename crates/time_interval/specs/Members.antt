@@ -3,7 +3,7 @@ use Rattle.std.specs.Prelude.{◌≡◌, ℕ, ◌<◌, ◌≤◌, true, false}
 use Rattle.bm_base.specs.Mask.{has_bit}
 
 -- the least member from a place on and below an end, which it is where there is none
-pub record IsNextMember (mask from end next : ℕ) : Type 0 where
+pub record IsNextBelow (mask from end next : ℕ) : Type 0 where
   pub low : from ≤ next
   pub high : next ≤ end
   pub skipped : (q : ℕ) → from ≤ q → q < next → has_bit mask q ≡ false

@@ -1,5 +1,6 @@
 -- Of private functions: bounds in lists by processors, and how large they become.
 use Rattle.std.specs.Prelude.{ℕ, ◌≤◌, List, Option, Some, None, slice_index_or}
+use Rattle.bm_base.specs.declared.limits.TheConstants.{MOST_PROCESSORS, MOST_TICKS, MOST_DELAY}
 use Rattle.time_interval.specs.Bounds.{Pace, Known, time}
 
 abbrev pub by_processor : List (Option ℕ) → ℕ → Option ℕ
@@ -10,10 +11,10 @@ known_by lo up fired = record { lo = by_processor lo; up = by_processor up; fire
 
 -- the numbers of a machine
 pub record IsPace (pace : Pace) : Type 0 where
-  pub few : pace.processors ≤ 128
-  pub short : pace.delay ≤ 100
-  pub least : (t : ℕ) → (time pace t).least ≤ 1000
-  pub most : (t : ℕ) → (time pace t).most ≤ 1000
+  pub few : pace.processors ≤ MOST_PROCESSORS
+  pub short : pace.delay ≤ MOST_DELAY
+  pub least : (t : ℕ) → (time pace t).least ≤ MOST_TICKS
+  pub most : (t : ℕ) → (time pace t).most ≤ MOST_TICKS
   pub some : (t : ℕ) → 1 ≤ (time pace t).most
 
 -- what is known is no more than so many ticks

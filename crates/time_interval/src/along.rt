@@ -11,7 +11,7 @@ ghost use Rattle.time_interval.specs.Walks.{known_of};
 use crate::reference::Reference;
 use crate::timing::Timing;
 use crate::walk::Walk;
-use bm_base::Mask;
+use bm_base::{MOST_MASKS, Mask};
 use line_model::Item;
 
 /// Walks along items.
@@ -69,7 +69,7 @@ pub(crate) fn known(timing: &Timing, reference: Reference, items: &[Item]) -> Wa
 }
 
 /// The items in front of a tuple, and its processor.
-pub(crate) fn run_of(items: &[Item], t: u8) -> (&[Item], u8)
+pub fn run_of(items: &[Item], t: u8) -> (&[Item], u8)
     ensures front { result.0.now ≡ front_of_run t items.now }
     ensures processor { result.1 ≡ processor_of t items.now }
 {
@@ -133,7 +133,7 @@ pub(crate) fn place_of_bar(items: &[Item], index: u8) -> usize
 
 /// How many barriers.
 pub(crate) fn bars(items: &[Item]) -> u8
-    requires { length (masks items.now) ≤ 128 }
+    requires { length (masks items.now) ≤ MOST_MASKS }
     ensures { result ≡ length (masks items.now) }
 {
     let mut bars = 0;

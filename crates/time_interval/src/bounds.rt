@@ -14,7 +14,7 @@ use crate::front::Front;
 use crate::places::Places;
 use crate::reference::{Point, Reason, Reference};
 use crate::timed::TimedLine;
-use bm_base::{Mask, Spec};
+use bm_base::{MOST_PROCESSORS, MOST_TUPLES, Mask, Spec};
 use dependence::Deps;
 use line_model::Line;
 use std::alloc::{AllocError, Global};
@@ -62,7 +62,7 @@ impl Bounds {
     /// once, there are at most 128 tuples and 128 barriers, no mask is empty, and all processors are
     /// the machine's. It fails only where memory runs out.
     pub fn of(alloc: Global, line: &Line, block: &Block, spec: &Spec) -> Result<Bounds, AllocError>
-        requires few { length block.now.tuples ≤ 128 }
+        requires few { length block.now.tuples ≤ MOST_TUPLES }
         requires line { IsLine (length block.now.tuples) spec.now.processors line.now.items }
         ensures { IfOk result (λ b. b ≡ record { pace = pace_on spec.now block.now.tuples; line = line.now.items; before = None }) }
     {
@@ -105,7 +105,7 @@ impl Bounds {
     /// How many barriers the line at hand has.
     pub fn bars(&self) -> u8
         ensures value { result ≡ length (masks self.now.line) }
-        ensures few { result ≤ 128 }
+        ensures few { result ≤ MOST_PROCESSORS }
     {
         if self.stands {
             self.edited.bars()

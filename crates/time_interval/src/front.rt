@@ -23,7 +23,7 @@ use crate::least::least_since;
 use crate::seen::{Sets, has};
 use crate::timing::Timing;
 use crate::walk::Walk;
-use bm_base::Mask;
+use bm_base::{MOST_MASKS, MOST_PROCESSORS, MOST_TUPLES, Mask};
 use dependence::Deps;
 use line_model::Item;
 
@@ -94,7 +94,7 @@ impl Front {
     fn past_run(&mut self, timing: &Timing, q: u8, t: u8)
         requires processor { q < timing.now.processors }
         requires tuple { t < length timing.now.times }
-        requires few { length timing.now.times ≤ 128 }
+        requires few { length timing.now.times ≤ MOST_TUPLES }
         requires small { IsUpTo 3000000000 (known_of self.old.walk) }
         ensures seen { seen_of self.new.seen ≡ past_run_seen q t (seen_of self.old.seen) }
         ensures knows { self.new.knows ≡ self.old.knows }
@@ -106,7 +106,7 @@ impl Front {
         ensures fires { self.new.fires ≡ self.old.fires }
         ensures lows { self.new.lows ≡ self.old.lows }
     {
-        prove!(timing.processors() <= 128);
+        prove!(timing.processors() <= MOST_PROCESSORS);
         self.seen.past_run(q, t);
         self.walk.past_run(timing, q, t);
         self.finish[t as usize] = self.walk.up(q);
@@ -117,7 +117,7 @@ impl Front {
     fn past_bar(&mut self, timing: &Timing, mask: Mask)
         requires members { (p : ℕ) → has_bit mask p ≡ true → p < timing.now.processors }
         requires small { IsUpTo 3000000000 (known_of self.old.walk) }
-        requires room { self.old.knows.bars < 128 }
+        requires room { self.old.knows.bars < MOST_MASKS }
         ensures seen { seen_of self.new.seen ≡ past_bar_seen timing.now.processors mask (seen_of self.old.seen) }
         ensures knows { knows_of self.new.knows ≡ past_bar_knows timing.now.processors mask (knows_of self.old.knows) }
         ensures walk { known_of self.new.walk ≡ past_bar timing.now mask (known_of self.old.walk) }
@@ -144,9 +144,9 @@ impl Front {
     /// Behind one more item.
     pub(crate) fn past(&mut self, timing: &Timing, item: Item)
         requires item { IsItem (length timing.now.times) timing.now.processors item }
-        requires few { length timing.now.times ≤ 128 }
+        requires few { length timing.now.times ≤ MOST_TUPLES }
         requires small { IsUpTo 3000000000 (known_of self.old.walk) }
-        requires room { (mask : ℕ) → item ≡ Bar mask → self.old.knows.bars < 128 }
+        requires room { (mask : ℕ) → item ≡ Bar mask → self.old.knows.bars < MOST_MASKS }
         ensures { (items : List Item) → IsAhead timing.now items self.old → IsNew items item
             → IsAhead timing.now (items ++ item ∷ []) self.new }
     {
@@ -158,7 +158,7 @@ impl Front {
 
     /// The greatest tick of a tuple's finish since the start.
     fn finish(&self, g: u8) -> Option<u32>
-        requires { g < 128 }
+        requires { g < MOST_TUPLES }
         ensures { result ≡ by_processor self.now.finish g }
     {
         self.finish[g as usize]
@@ -166,8 +166,8 @@ impl Front {
 
     /// Whether a tuple's finish is known since a barrier.
     fn is_known(&self, g: u8, index: u8) -> bool
-        requires tuple { g < 128 }
-        requires index { index < 128 }
+        requires tuple { g < MOST_TUPLES }
+        requires index { index < MOST_MASKS }
         ensures { result ≡ has_bit (set_at self.now.since g) index }
     {
         has(self.since[g as usize], index)
@@ -175,8 +175,8 @@ impl Front {
 
     /// The greatest tick of g's finish since a barrier since which it is known.
     fn latest_since(&self, g: u8, index: u8) -> Option<u32>
-        requires tuple { g < 128 }
-        requires index { index < 128 }
+        requires tuple { g < MOST_TUPLES }
+        requires index { index < MOST_MASKS }
         requires order { (f t : ℕ) → by_processor self.now.fires index ≡ Some f → by_processor self.now.finish g ≡ Some t → f ≤ t }
         ensures { (x c : ℕ) → by_processor self.now.fires index ≡ Some c → by_processor self.now.finish g ≡ Some (x + c) → result ≡ Some x }
     {
@@ -186,7 +186,7 @@ impl Front {
     /// Whether since the start processor p goes on before so many ticks behind the firing of a
     /// barrier, both at the least tick. Then it goes on before so many ticks since the barrier too.
     fn is_early(&self, index: u8, p: u8, ticks: u32) -> bool
-        requires index { index < 128 }
+        requires index { index < MOST_MASKS }
         ensures { result ≡ true → (s c : ℕ) × ((known_of self.now.walk).lo p ≡ Some s)
             × (by_processor self.now.lows index ≡ Some c) × (s < ticks + c) }
     {
@@ -199,12 +199,12 @@ impl Front {
         requires ahead { IsAhead timing.now items.now self.now }
         requires items { All (IsItem (length timing.now.times) timing.now.processors) items.now }
         requires short { length items.now ≤ 1000000 }
-        requires bars { self.now.knows.bars ≤ 128 }
+        requires bars { self.now.knows.bars ≤ MOST_MASKS }
         requires index { index < self.now.knows.bars }
         requires here { list_any (nat_eq g) (tuples items.now) ≡ true }
         requires known { has_bit (set_at self.now.since g) index ≡ true }
-        requires tuple { g < 128 }
-        requires processor { p < 128 }
+        requires tuple { g < MOST_TUPLES }
+        requires processor { p < MOST_PROCESSORS }
         ensures { Decides result (IsInTimeNext timing.now items.now g p (reference.Bar index)) }
     {
         let Some(latest) = self.latest_since(g, index) else {
@@ -226,9 +226,9 @@ impl Front {
         requires items { All (IsItem (length timing.now.times) timing.now.processors) items.now }
         requires short { length items.now ≤ 1000000 }
         requires here { list_any (nat_eq g) (tuples items.now) ≡ true }
-        requires tuple { g < 128 }
-        requires processor { p < 128 }
-        requires bars { self.now.knows.bars ≤ 128 }
+        requires tuple { g < MOST_TUPLES }
+        requires processor { p < MOST_PROCESSORS }
+        requires bars { self.now.knows.bars ≤ MOST_MASKS }
         requires known { (r : ℕ) → has_bit (set_at self.now.since g) r ≡ false → ¬ IsInTimeNext timing.now items.now g p (reference.Bar r) }
         ensures { Decides result (IsInTimeSince self.now.knows.bars timing.now items.now g p) }
     {
@@ -247,14 +247,14 @@ impl Front {
         requires ahead { IsAhead timing.now items.now self.now }
         requires items { All (IsItem (length timing.now.times) timing.now.processors) items.now }
         requires short { length items.now ≤ 1000000 }
-        requires bars { length (masks items.now) ≤ 128 }
+        requires bars { length (masks items.now) ≤ MOST_MASKS }
         requires here { list_any (nat_eq g) (tuples items.now) ≡ true }
         requires tuple { g < length timing.now.times }
         requires processor { p < timing.now.processors }
-        requires few { length timing.now.times ≤ 128 }
+        requires few { length timing.now.times ≤ MOST_TUPLES }
         ensures { Decides result (IsBefore timing.now items.now g p) }
     {
-        prove!(timing.processors() <= 128);
+        prove!(timing.processors() <= MOST_PROCESSORS);
         if self.seen.has(p, g) {
             return true;
         }
@@ -270,11 +270,11 @@ fn all_before(timing: &Timing, front: &Front, items: &[Item], producers: &[u8], 
     requires ahead { IsAhead timing.now items.now front.now }
     requires items { All (IsItem (length timing.now.times) timing.now.processors) items.now }
     requires short { length items.now ≤ 1000000 }
-    requires bars { length (masks items.now) ≤ 128 }
+    requires bars { length (masks items.now) ≤ MOST_MASKS }
     requires here { All (λ g. list_any (nat_eq g) (tuples items.now) ≡ true) producers.now }
     requires tuples { All (λ g. g < length timing.now.times) producers.now }
     requires processor { p < timing.now.processors }
-    requires few { length timing.now.times ≤ 128 }
+    requires few { length timing.now.times ≤ MOST_TUPLES }
     ensures { Decides result (All (λ g. IsBefore timing.now items.now g p) producers.now) }
 {
     for g in producers {
@@ -290,10 +290,10 @@ fn stands_ordered(timing: &Timing, front: &Front, items: &[Item], deps: &Deps, i
     requires ahead { IsAhead timing.now items.now front.now }
     requires items { All (IsItem (length timing.now.times) timing.now.processors) items.now }
     requires short { length items.now ≤ 1000000 }
-    requires bars { length (masks items.now) ≤ 128 }
+    requires bars { length (masks items.now) ≤ MOST_MASKS }
     requires item { IsItem (length timing.now.times) timing.now.processors item }
     requires stand { ProducersStand deps.now.producers (tuples items.now) item }
-    requires few { length timing.now.times ≤ 128 }
+    requires few { length timing.now.times ≤ MOST_TUPLES }
     ensures { Decides result (StandsOrdered timing.now deps.now.producers items.now item) }
 {
     match item {

@@ -6,12 +6,12 @@ ghost use Rattle.time_interval.specs.Sets.{seen_by, set_at, knows_of};
 
 use crate::members::next_member;
 use crate::seen::{share, with};
-use bm_base::Mask;
+use bm_base::{MOST_MASKS, MOST_PROCESSORS, Mask};
 
 /// The barriers since which the last firing and all members are known.
 fn all_know(processors: u8, mask: Mask, fired: u128, ups: &[u128]) -> u128
     requires long { processors ≤ length ups.now }
-    requires few { processors ≤ 128 }
+    requires few { processors ≤ MOST_PROCESSORS }
     ensures { (r : ℕ) → has_bit result r ≡ all_know processors mask (has_bit fired) (seen_by ups.now) r }
 {
     let mut all = fired;
@@ -46,9 +46,9 @@ impl KnownSince {
 
     /// Behind a barrier.
     pub(crate) fn past_bar(&mut self, processors: u8, mask: Mask)
-        requires few { processors ≤ 128 }
+        requires few { processors ≤ MOST_PROCESSORS }
         requires members { (p : ℕ) → has_bit mask p ≡ true → p < processors }
-        requires room { self.old.bars < 128 }
+        requires room { self.old.bars < MOST_MASKS }
         ensures { knows_of self.new ≡ past_bar_knows processors mask (knows_of self.old) }
     {
         let all = with(all_know(processors, mask, self.fired, &self.ups), self.bars);
@@ -66,7 +66,7 @@ impl KnownSince {
 
     /// The barriers since which the greatest tick of a processor is known.
     pub(crate) fn since(&self, p: u8) -> u128
-        requires { p < 128 }
+        requires { p < MOST_PROCESSORS }
         ensures { result ≡ set_at self.now.ups p }
     {
         self.ups[p as usize]

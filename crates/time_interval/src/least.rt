@@ -8,7 +8,7 @@ ghost use Rattle.time_interval.specs.Walks.{least_of};
 
 use crate::timing::Timing;
 use crate::walk::{fire_lo, later, resume, unknown};
-use bm_base::Mask;
+use bm_base::{MOST_PROCESSORS, Mask};
 use line_model::Item;
 
 /// The least tick of each processor.
@@ -44,7 +44,7 @@ impl LeastWalk {
         ensures value { (least_of self.new).lo ≡ (past_run timing.now q t (least_of self.old)).lo }
         ensures small { (n : ℕ) → IsUpTo n (least_of self.old) → IsUpTo (n + 1100) (least_of self.new) }
     {
-        prove!(timing.processors() <= 128);
+        prove!(timing.processors() <= MOST_PROCESSORS);
         let least = u32::from(timing.time(t).least);
         self.lo[q as usize] = later(self.lo[q as usize], least);
     }
@@ -78,7 +78,7 @@ impl LeastWalk {
 
     /// The least tick of a processor.
     pub(crate) fn lo(&self, p: u8) -> Option<u32>
-        requires { p < 128 }
+        requires { p < MOST_PROCESSORS }
         ensures { result ≡ (least_of self.now).lo p }
     {
         self.lo[p as usize]

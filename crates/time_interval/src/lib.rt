@@ -18,7 +18,7 @@ mod members;
 mod places;
 mod reference;
 mod rows;
-mod seen;
+pub mod seen;
 #[cfg(test)]
 mod tests;
 mod timed;
@@ -26,6 +26,7 @@ mod timeline;
 mod timing;
 mod walk;
 
+pub use along::run_of;
 pub use bounds::Bounds;
 pub use edit::Edit;
 pub use examples::{bounds_examples, queue_examples};

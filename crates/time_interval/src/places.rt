@@ -7,7 +7,7 @@ ghost use Rattle.line_model.specs.Streams.{masks};
 ghost use Rattle.time_interval.specs.Gaps.{ArePlaces, AreFirstPlaces};
 ghost use Rattle.time_interval.specs.Places.{place_of_bar};
 
-use bm_base::Mask;
+use bm_base::{MOST_MASKS, Mask};
 use line_model::Item;
 
 /// How many barriers a line has, and their places.
@@ -37,7 +37,7 @@ fn mask_there(item: Item) -> Mask
 impl Places {
     /// The places of the barriers among the items.
     pub(crate) fn of(items: &[Item]) -> Places
-        requires { length (masks items.now) ≤ 128 }
+        requires { length (masks items.now) ≤ MOST_MASKS }
         ensures { ArePlaces items.now result }
     {
         let mut bars: u8 = 0;
@@ -62,7 +62,7 @@ impl Places {
     pub(crate) fn at(&self, index: u8) -> usize
         ensures { (line : List Item) → ArePlaces line self.now → index < length (masks line) → result ≡ place_of_bar index line }
     {
-        if index < 128 {
+        if (index as usize) < MOST_MASKS {
             self.places[index as usize]
         } else {
             0
@@ -72,7 +72,7 @@ impl Places {
     /// The mask of a barrier of the items, empty where there is none.
     pub(crate) fn mask(&self, items: &[Item], index: u8) -> Mask
         requires places { ArePlaces items.now self.now }
-        requires few { length (masks items.now) ≤ 128 }
+        requires few { length (masks items.now) ≤ MOST_MASKS }
         ensures { result ≡ mask_at items.now index }
     {
         if index >= self.bars {

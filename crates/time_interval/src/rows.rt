@@ -6,12 +6,13 @@ ghost use Rattle.time_interval.specs.Lines.{IsItem, tuples};
 ghost use Rattle.time_interval.specs.Ordered.{AreBehind};
 
 use crate::seen::{has, with};
+use bm_base::{MOST_PROCESSORS, MOST_TUPLES};
 use dependence::Deps;
 use line_model::Item;
 
 /// Whether each tuple stands behind its producers.
 pub(crate) fn in_order(items: &[Item], deps: &Deps) -> bool
-    requires { All (IsItem 128 128) items.now }
+    requires { All (IsItem MOST_TUPLES MOST_PROCESSORS) items.now }
     ensures { Decides result (AreBehind deps.now.producers [] (tuples items.now)) }
 {
     let mut passed = 0;
@@ -41,7 +42,7 @@ fn may_stand(item: Item, deps: &Deps, passed: u128) -> bool
 
 /// The set with the tuple of an item.
 fn passed_with(item: Item, passed: u128) -> u128
-    requires { IsItem 128 128 item }
+    requires { IsItem MOST_TUPLES MOST_PROCESSORS item }
     ensures { (g : ℕ) → has_bit result g ≡ has_passed item (has_bit passed) g }
 {
     match item {

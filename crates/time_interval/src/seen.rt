@@ -7,29 +7,29 @@ ghost use Rattle.time_interval.specs.Seen.{seen_of_members, past_run_seen, past_
 ghost use Rattle.time_interval.specs.Sets.{seen_by, seen_of, set_at};
 
 use crate::members::next_member;
-use bm_base::Mask;
+use bm_base::{MOST_PROCESSORS, MOST_TUPLES, Mask};
 use line_model::Item;
 
 /// The set with one more number.
-pub(crate) fn with(set: u128, t: u8) -> u128
-    requires { t < 128 }
+pub fn with(set: u128, t: u8) -> u128
+    requires { t < MOST_TUPLES }
     ensures { result ≡ bit_or set (2 ^ t) }
 {
     set | 1u128 << t
 }
 
 /// Whether the number is in the set.
-pub(crate) fn has(set: u128, t: u8) -> bool
-    requires { t < 128 }
+pub fn has(set: u128, t: u8) -> bool
+    requires { t < MOST_TUPLES }
     ensures { result ≡ has_bit set t }
 {
     (set >> t) & 1 == 1
 }
 
 /// The union of the members' sets.
-fn union_of(processors: u8, mask: Mask, sets: &[u128]) -> u128
+pub fn union_of(processors: u8, mask: Mask, sets: &[u128]) -> u128
     requires long { processors ≤ length sets.now }
-    requires few { processors ≤ 128 }
+    requires few { processors ≤ MOST_PROCESSORS }
     ensures { (g : ℕ) → has_bit result g ≡ seen_of_members processors mask (seen_by sets.now) g }
 {
     let mut union = 0;
@@ -42,9 +42,9 @@ fn union_of(processors: u8, mask: Mask, sets: &[u128]) -> u128
 }
 
 /// Sets the sets of the members.
-pub(crate) fn share(sets: &mut [u128], processors: u8, mask: Mask, set: u128)
+pub fn share(sets: &mut [u128], processors: u8, mask: Mask, set: u128)
     requires long { processors ≤ length sets.old }
-    requires few { processors ≤ 128 }
+    requires few { processors ≤ MOST_PROCESSORS }
     requires members { (p : ℕ) → has_bit mask p ≡ true → p < processors }
     ensures { (q : ℕ) → set_at sets.new q ≡ (if has_bit mask q then set else set_at sets.old q) }
 {
@@ -71,8 +71,8 @@ impl Sets {
 
     /// Behind a tuple.
     pub(crate) fn past_run(&mut self, q: u8, t: u8)
-        requires processor { q < 128 }
-        requires tuple { t < 128 }
+        requires processor { q < MOST_PROCESSORS }
+        requires tuple { t < MOST_TUPLES }
         ensures { seen_of self.new ≡ past_run_seen q t (seen_of self.old) }
     {
         self.sets[q as usize] = with(self.sets[q as usize], t);
@@ -80,7 +80,7 @@ impl Sets {
 
     /// Behind a barrier.
     pub(crate) fn past_bar(&mut self, processors: u8, mask: Mask)
-        requires few { processors ≤ 128 }
+        requires few { processors ≤ MOST_PROCESSORS }
         requires members { (p : ℕ) → has_bit mask p ≡ true → p < processors }
         ensures { seen_of self.new ≡ past_bar_seen processors mask (seen_of self.old) }
     {
@@ -90,8 +90,8 @@ impl Sets {
 
     /// Whether processor p has seen tuple t.
     pub(crate) fn has(&self, p: u8, t: u8) -> bool
-        requires processor { p < 128 }
-        requires tuple { t < 128 }
+        requires processor { p < MOST_PROCESSORS }
+        requires tuple { t < MOST_TUPLES }
         ensures { result ≡ seen_of self.now p t }
     {
         has(self.sets[p as usize], t)
@@ -100,8 +100,8 @@ impl Sets {
 
 /// What is seen behind items.
 pub(crate) fn seen(processors: u8, items: &[Item]) -> Sets
-    requires few { processors ≤ 128 }
-    requires items { All (IsItem 128 processors) items.now }
+    requires few { processors ≤ MOST_PROCESSORS }
+    requires items { All (IsItem MOST_TUPLES processors) items.now }
     ensures { seen_of result ≡ seen_along processors (λ p g. false) items.now }
 {
     let mut seen = Sets::none();
@@ -115,7 +115,7 @@ pub(crate) fn seen(processors: u8, items: &[Item]) -> Sets
 }
 
 /// Whether tuple t is one of the items, on processor p.
-pub(crate) fn stands_on(items: &[Item], p: u8, t: u8) -> bool
+pub fn stands_on(items: &[Item], p: u8, t: u8) -> bool
     ensures { result ≡ stands_on items.now p t }
 {
     for item in items {

@@ -24,7 +24,7 @@ use crate::rows::in_order;
 use crate::seen::{seen, stands_on};
 use crate::timing::Timing;
 use crate::walk::later;
-use bm_base::{Mask, Spec};
+use bm_base::{MOST_MASKS, MOST_PROCESSORS, MOST_TUPLES, Mask, Spec};
 use dependence::Deps;
 use line_model::{Item, Items, Line};
 use std::alloc::{AllocError, Global};
@@ -77,7 +77,7 @@ impl TimedLine {
         block: &Block,
         spec: &Spec,
     ) -> Result<TimedLine, AllocError>
-        requires few { length block.now.tuples ≤ 128 }
+        requires few { length block.now.tuples ≤ MOST_TUPLES }
         requires line { IsLine (length block.now.tuples) spec.now.processors line.now.items }
         ensures pace { IfOk result (λ timed. timed.pace ≡ pace_on spec.now block.now.tuples) }
         ensures line { IfOk result (λ timed. timed.line ≡ line.now.items) }
@@ -214,7 +214,7 @@ impl TimedLine {
 
     /// The line without items. It fails only where memory runs out.
     pub(crate) fn empty(alloc: Global, block: &Block, spec: &Spec) -> Result<TimedLine, AllocError>
-        requires few { length block.now.tuples ≤ 128 }
+        requires few { length block.now.tuples ≤ MOST_TUPLES }
         ensures pace { IfOk result (λ timed. timed.pace ≡ pace_on spec.now block.now.tuples) }
         ensures line { IfOk result (λ timed. timed.line ≡ []) }
         ensures times { IfOk result (λ timed. (t : ℕ) → 1 ≤ (time timed.pace t).most) }
@@ -241,7 +241,7 @@ impl TimedLine {
     /// Puts a barrier at the line's end; want of memory changes nothing.
     pub(crate) fn push_bar(&mut self, mask: Mask) -> Result<(), AllocError>
         requires some { IsItem 0 self.old.pace.processors (Bar mask) }
-        requires room { length (masks self.old.line) < 128 }
+        requires room { length (masks self.old.line) < MOST_MASKS }
         ensures pace { self.new.pace ≡ self.old.pace }
         ensures ok { OnOk result (self.new.line ≡ self.old.line ++ Bar mask ∷ []) }
         ensures err { OnErr result (self.new.line ≡ self.old.line) }
@@ -270,7 +270,7 @@ impl TimedLine {
     /// How many barriers.
     pub(crate) fn bars(&self) -> u8
         ensures value { result ≡ length (masks self.now.line) }
-        ensures few { result ≤ 128 }
+        ensures few { result ≤ MOST_PROCESSORS }
     {
         bars(self.line.items.items())
     }
@@ -358,7 +358,7 @@ impl TimedLine {
     pub(crate) fn bars_at(&self, places: &Places) -> u8
         requires { ArePlaces self.now.line places.now }
         ensures value { result ≡ length (masks self.now.line) }
-        ensures few { result ≤ 128 }
+        ensures few { result ≤ MOST_PROCESSORS }
     {
         let _items = self.line.items.items();
         places.bars()

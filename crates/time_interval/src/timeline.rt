@@ -9,7 +9,7 @@ ghost use Rattle.time_interval.specs.Ordered.{IsOrdered};
 
 use crate::front::Front;
 use crate::timed::TimedLine;
-use bm_base::{Mask, Spec};
+use bm_base::{MOST_MASKS, MOST_TUPLES, Mask, Spec};
 use line_model::Line;
 use std::alloc::{AllocError, Global};
 use std::marker::Model;
@@ -37,7 +37,7 @@ impl Model for Timeline {
 impl Timeline {
     /// The line without items, of a block on a machine. It fails only where memory runs out.
     pub fn empty(alloc: Global, block: &Block, spec: &Spec) -> Result<Timeline, AllocError>
-        requires few { length block.now.tuples ≤ 128 }
+        requires few { length block.now.tuples ≤ MOST_TUPLES }
         ensures pace { IfOk result (λ timeline. timeline.pace ≡ pace_on spec.now block.now.tuples) }
         ensures line { IfOk result (λ timeline. timeline.line ≡ []) }
         ensures times { IfOk result (λ timeline. (t : ℕ) → 1 ≤ (time timeline.pace t).most) }
@@ -65,7 +65,7 @@ impl Timeline {
     /// Puts a barrier at the line's end; want of memory changes nothing.
     pub fn push_bar(&mut self, mask: Mask) -> Result<(), AllocError>
         requires some { IsItem 0 self.old.pace.processors (Bar mask) }
-        requires room { length (masks self.old.line) < 128 }
+        requires room { length (masks self.old.line) < MOST_MASKS }
         ensures pace { self.new.pace ≡ self.old.pace }
         ensures ok { OnOk result (self.new.line ≡ self.old.line ++ Bar mask ∷ []) }
         ensures err { OnErr result (self.new.line ≡ self.old.line) }

@@ -3,7 +3,7 @@ ghost use Rattle.std.specs.Prelude.{◌≡◌, ◌<◌, ◌≤◌, IfOk, length}
 ghost use Rattle.time_interval.specs.Bounds.{Pace, time, pace_on};
 ghost use Rattle.time_interval.specs.Steps.{IsPace};
 
-use bm_base::{Interval, Spec};
+use bm_base::{Interval, MOST_DELAY, MOST_PROCESSORS, MOST_TICKS, Spec};
 use std::alloc::{AllocError, Global};
 use std::marker::Model;
 use tuple_ir::{Tuple, class};
@@ -48,7 +48,7 @@ impl Timing {
     /// How many processors.
     pub(crate) fn processors(&self) -> u8
         ensures value { result ≡ self.now.processors }
-        ensures few { result ≤ 128 }
+        ensures few { result ≤ MOST_PROCESSORS }
     {
         self.processors
     }
@@ -56,7 +56,7 @@ impl Timing {
     /// From a firing to the resuming of its members.
     pub(crate) fn delay(&self) -> u32
         ensures value { result ≡ self.now.delay }
-        ensures short { result ≤ 100 }
+        ensures short { result ≤ MOST_DELAY }
     {
         u32::from(self.delay)
     }
@@ -65,8 +65,8 @@ impl Timing {
     pub(crate) fn time(&self, t: u8) -> Interval
         requires { t < length self.now.times }
         ensures value { result ≡ time self.now t }
-        ensures least { result.least ≤ 1000 }
-        ensures most { result.most ≤ 1000 }
+        ensures least { result.least ≤ MOST_TICKS }
+        ensures most { result.most ≤ MOST_TICKS }
     {
         self.times[t as usize]
     }

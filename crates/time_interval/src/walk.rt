@@ -8,7 +8,7 @@ ghost use Rattle.time_interval.specs.Walks.{known_of};
 
 use crate::members::next_member;
 use crate::timing::Timing;
-use bm_base::Mask;
+use bm_base::{MOST_PROCESSORS, MOST_TICKS, Mask};
 
 /// The greater of two numbers.
 fn larger(a: u32, b: u32) -> u32
@@ -41,7 +41,7 @@ fn greater_of_both(a: Option<u32>, b: Option<u32>) -> Option<u32>
 /// The greatest known bound of the members.
 pub(crate) fn fire_lo(processors: u8, mask: Mask, lo: &[Option<u32>]) -> Option<u32>
     requires long { processors ≤ length lo.now }
-    requires few { processors ≤ 128 }
+    requires few { processors ≤ MOST_PROCESSORS }
     ensures { result ≡ fire_lo processors mask (by_processor lo.now) }
 {
     let mut greatest = None;
@@ -56,7 +56,7 @@ pub(crate) fn fire_lo(processors: u8, mask: Mask, lo: &[Option<u32>]) -> Option<
 /// The greatest of the members' bounds and of the firing before.
 fn fire_up(processors: u8, mask: Mask, fired: Option<u32>, up: &[Option<u32>]) -> Option<u32>
     requires long { processors ≤ length up.now }
-    requires few { processors ≤ 128 }
+    requires few { processors ≤ MOST_PROCESSORS }
     ensures { result ≡ fire_up processors mask fired (by_processor up.now) }
 {
     let mut greatest = fired;
@@ -70,7 +70,7 @@ fn fire_up(processors: u8, mask: Mask, fired: Option<u32>, up: &[Option<u32>]) -
 
 /// So many ticks later, where it is known.
 pub(crate) fn later(bound: Option<u32>, ticks: u32) -> Option<u32>
-    requires short { ticks ≤ 1000 }
+    requires short { ticks ≤ MOST_TICKS }
     requires small { is_up_to 4000000000 bound }
     ensures { result ≡ later bound ticks }
 {
@@ -83,7 +83,7 @@ pub(crate) fn later(bound: Option<u32>, ticks: u32) -> Option<u32>
 /// Sets the bounds of the members.
 pub(crate) fn resume(bounds: &mut [Option<u32>], processors: u8, mask: Mask, bound: Option<u32>)
     requires long { processors ≤ length bounds.old }
-    requires few { processors ≤ 128 }
+    requires few { processors ≤ MOST_PROCESSORS }
     requires members { (p : ℕ) → has_bit mask p ≡ true → p < processors }
     ensures { (q : ℕ) → by_processor bounds.new q ≡ (if has_bit mask q then bound else by_processor bounds.old q) }
 {
@@ -163,7 +163,7 @@ impl Walk {
         ensures value { known_of self.new ≡ past_run timing.now q t (known_of self.old) }
         ensures small { (n : ℕ) → IsUpTo n (known_of self.old) → IsUpTo (n + 1100) (known_of self.new) }
     {
-        prove!(timing.processors() <= 128);
+        prove!(timing.processors() <= MOST_PROCESSORS);
         let time = timing.time(t);
         self.lo[q as usize] = later(self.lo[q as usize], u32::from(time.least));
         self.up[q as usize] = later(self.up[q as usize], u32::from(time.most));
@@ -209,12 +209,20 @@ impl Walk {
     pub(crate) fn lo(&self, p: u8) -> Option<u32>
         ensures { result ≡ (known_of self.now).lo p }
     {
-        if p < 128 { self.lo[p as usize] } else { None }
+        if p < MOST_PROCESSORS {
+            self.lo[p as usize]
+        } else {
+            None
+        }
     }
 
     pub(crate) fn up(&self, p: u8) -> Option<u32>
         ensures { result ≡ (known_of self.now).up p }
     {
-        if p < 128 { self.up[p as usize] } else { None }
+        if p < MOST_PROCESSORS {
+            self.up[p as usize]
+        } else {
+            None
+        }
     }
 }

@@ -5,7 +5,6 @@ use Rattle.std.specs.List.{AllByRecursion}
 use Rattle.std.specs.Option.{option_map}
 use Rattle.std.specs.Char.{is_ascii_digit}
 use Rattle.std.proofs.lemmas.Bool.Decides.{nat_tests}
-use Rattle.std.proofs.Math.Nat.{mod-eq_of_lt}
 use Rattle.std.proofs.Math.ListN.{get_or-map}
 use Rattle.std.proofs.lemmas.Bool.{cases_lt}
 use Rattle.std.proofs.lemmas.List.{length-map, get_or_past}
@@ -17,6 +16,7 @@ use Rattle.bm_base.proofs.StrictTexts.{both_true, none_some}
 use Rattle.bm_base.proofs.NumberTexts.{numerals, count_of-decimal}
 use Rattle.field_rows.specs.Spelling.{is_plain, IsPlainField, IsPlainRow, spaced, numbered}
 use Rattle.field_rows.proofs.Spelled.{spelled}
+use Rattle.timing_law.specs.Within.{duration_by-reached}
 use Rattle.timing_script.specs.declared.script.Script.TheVariants.{File}
 use Rattle.timing_script.specs.Text.{Gift, GiveAll, offsets_for, IsTextOf}
 use Rattle.timing_script.specs.Laws.{Timed, IsTimed, IsTimedRun, Keeps, ScriptsReachAllTimings}
@@ -111,14 +111,6 @@ all_at P [] k d h l = absurd (omega arith)
 all_at P (x ∷ xs) zero d h l = h.0
 all_at P (x ∷ xs) (suc k) d h l = all_at P xs k d h.1 (omega arith)
 
-within : (t : Timed) → IsTimed t → t.interval.least + offset_of_time t % (t.interval.most - t.interval.least + 1) ≡ t.time
-within t h =
-    let low : t.interval.least ≤ t.time = h.within.low in
-    let high : t.time ≤ t.interval.most = h.within.high in
-    let below : t.time - t.interval.least < t.interval.most - t.interval.least + 1 = omega arith in
-    let same : (t.time - t.interval.least) % (t.interval.most - t.interval.least + 1) ≡ t.time - t.interval.least = mod-eq_of_lt below in
-    omega arith
-
 short_times : (ts : List Timed) → AllByRecursion IsTimed ts → AreShort (map offset_of_time ts)
 short_times [] h = tt
 short_times (t ∷ ts) h = (let s : t.time < 2 ^ 64 = h.0.short in omega arith, short_times ts h.1)
@@ -171,7 +163,7 @@ module _ (starts : List (List Timed)) (h : IsTimedRun starts) where
       let below : p < 256 = let few : length starts ≤ 256 = h.0 in let known : p < length starts = known_processor starts p k t here in omega arith in
       let offset : get_or (get_or script p []) k 0 ≡ offset_of_time t =
       ap (λ (xs : List ℕ). get_or xs k 0) (from_nothing (gifts_from 0 (offsets_of starts)) p below ∙ gifts-at 0 p p (offsets_of starts) (omega arith)) ∙ offset_there starts p k t here in
-      ap (λ o. t.interval.least + o % (t.interval.most - t.interval.least + 1)) offset ∙ within t (timed starts p k t here h.1)
+      ap (λ o. t.interval.least + o % (t.interval.most - t.interval.least + 1)) offset ∙ duration_by-reached t.time t.interval (timed starts p k t here h.1).within
 
 pub reached : ScriptsReachAllTimings
 reached starts h = (bytes starts h, (File (script starts h), (is_text starts h, keeps starts h)))

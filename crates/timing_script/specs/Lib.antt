@@ -1,5 +1,6 @@
-pub mod Laws
+-- The definitions, in the order in which to read them.
 pub mod Script
 pub mod Within
-pub mod Reading
 pub mod Text
+pub mod Reading
+pub mod Laws

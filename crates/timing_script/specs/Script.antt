@@ -1,17 +1,10 @@
 -- The offsets of a script.
-use Rattle.std.specs.Prelude.{ℕ, ◌+◌, ◌-◌, ◌*◌, ◌/◌, ◌%◌, ◌^◌, bit_xor, List, [], get_or}
+use Rattle.std.specs.Prelude.{ℕ, ◌+◌, ◌-◌, ◌*◌, ◌%◌, ◌^◌, List, [], get_or}
+use Rattle.bm_base.specs.Mixing.{mixed}
 use Rattle.bm_base.specs.declared.spec.Interval.{Interval}
 use Rattle.timing_law.specs.Duration.{duration_by}
 use Rattle.timing_script.specs.declared.script.Script.{Script}
 use Rattle.timing_script.specs.declared.script.Script.TheVariants.{Least, Most, Seed, File}
-
--- z with its own high bits, moved down, turned into it
-abbrev pub stirred : ℕ → ℕ → ℕ
-stirred by z = bit_xor z (z / 2 ^ by)
-
--- the finaliser of the generator SplitMix64, on 64 bits
-abbrev pub mixed : ℕ → ℕ
-mixed z = stirred 31 (stirred 27 (stirred 30 z * 0xBF58476D1CE4E5B9 % 2 ^ 64) * 0x94D049BB133111EB % 2 ^ 64)
 
 -- the number of a processor, from 1, and the count of its starts, from 0, spread over 64 bits above a seed
 abbrev pub seed_offset : ℕ → ℕ → ℕ → ℕ

@@ -4,6 +4,7 @@ ghost use Rattle.std.specs.Prelude.{◌≡◌, ◌≤◌};
 use crate::seed::offset_by_seed;
 use crate::{Offsets, Timing};
 use bm_base::Interval;
+use timing_law::duration_by;
 
 /// A rule that gives each instruction its duration: an offset above the least of its interval,
 /// modulo the number of durations that the interval has.
@@ -46,9 +47,7 @@ impl Timing for Script {
     ghost duration = { script_duration };
 
     fn time(&self, processor: u8, k: u64, interval: Interval) -> u16 {
-        let span = u64::from(interval.most - interval.least) + 1;
-        let above = self.offset(processor, k, interval) % span;
-        interval.least + above as u16
+        duration_by(self.offset(processor, k, interval), interval)
     }
 
     ghost within = { script_duration-within };

@@ -10,7 +10,10 @@ use Rattle.bm_run.specs.RunUpTo.{End}
 use Rattle.bm_run.specs.Told.{IsToldUpTo}
 use Rattle.bm_report.specs.Events.{event_line, has_line}
 use Rattle.bm_course.specs.Course.{Output}
-use Rattle.run_text.specs.RunText.{run_status, ending}
+use Rattle.timing_script.specs.declared.script.Script.{Script}
+use Rattle.timing_script.specs.Script.{script_duration}
+use Rattle.run_text.specs.declared.kind.UnitKind.{UnitKind}
+use Rattle.run_text.specs.RunText.{run_status, ending, choice_of}
 
 abbrev pub line_if : Event → Bool → List (List ℕ)
 line_if event true = event_line event ∷ []
@@ -39,3 +42,7 @@ pub record IsTraceOf (choice : Choice) (durations : Durations) (m : Program) (me
   pub end : Option End
   pub tells : IsToldUpTo choice durations m memory budget events end
   pub text_is : text ≡ trace_text m.names budget events end
+
+-- the same on a unit of this kind, with the durations of the script
+abbrev pub IsRunTrace : Program → UnitKind → Script → List Content → ℕ → Output → Type 0
+IsRunTrace m kind script memory budget text = IsTraceOf (choice_of kind) (script_duration script) m memory budget text

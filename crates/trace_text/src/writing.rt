@@ -1,5 +1,5 @@
 // The trace of a run, as the machine runs.
-ghost use Rattle.std.specs.Prelude.{◌≡◌, ◌≤◌, ℕ, IfOk, length};
+ghost use Rattle.std.specs.Prelude.{◌≡◌, ◌≤◌, ℕ, length};
 ghost use Rattle.bm_base.specs.Memories.{IsMemoryOf};
 ghost use Rattle.bm_io.specs.declared.sinks.SinkFault.TheVariants.{Failed};
 ghost use Rattle.bm_io.specs.Causes.{HasCause};
@@ -12,7 +12,7 @@ ghost use Rattle.bm_course.specs.Course.{Output};
 ghost use Rattle.bm_course.specs.Sends.{Sends};
 ghost use Rattle.trace_text.specs.TraceText.{IsTraceOf};
 ghost use Rattle.trace_text.specs.EventLines.{with_event_line, LeavesEvent};
-ghost use Rattle.trace_text.specs.Begins.{Starts, SendsTrace};
+ghost use Rattle.trace_text.specs.Begins.{SendsTrace};
 
 use crate::{EventLines, runs_have_one_trace};
 use bm_base::{MOST_BUDGET, Names, Store};
@@ -20,28 +20,10 @@ use bm_io::{Sink, SinkFault};
 use bm_machine::Machine;
 use bm_report::{write_end, write_going};
 use bm_run::{RunEnd, run};
-use std::alloc::{AllocError, Global};
+use std::alloc::Global;
 use stream_image::Image;
 use timing_law::Timing;
 use unit_law::BarrierUnit;
-
-/// A machine before the run of a program from this memory, on this unit with this timing.
-fn machine_before<'a, U: BarrierUnit, T: Timing>(
-    alloc: Global,
-    image: &'a Image,
-    store: Store,
-    unit: U,
-    timing: T,
-) -> Result<Machine<'a, U, T>, AllocError>
-    requires memory { IsMemoryOf image.now.names store }
-    requires room { (b : ℕ) → length (masks (code_at image.now b).line) ≤ U.capacity unit }
-    ensures program { IfOk result (λ machine. machine.program ≡ image.now) }
-    ensures choice { IfOk result (λ machine. U.choice machine.unit ≡ U.choice unit) }
-    ensures timing { IfOk result (λ machine. machine.timing ≡ timing) }
-    ensures starts { IfOk result (λ machine. Starts image.now store machine.state machine.counts) }
-{
-    Machine::new(alloc, image, store, unit, timing)
-}
 
 /// Writes a line for each event of a machine's run at clocks of at most the budget.
 fn write_events<U: BarrierUnit, T: Timing, O: Sink>(
@@ -109,6 +91,6 @@ pub fn write_trace_on<U: BarrierUnit, T: Timing, O: Sink>(
 {
     let _blocks = image.blocks();
     runs_have_one_trace();
-    let mut machine = machine_before(alloc, image, store, unit, timing)?;
+    let mut machine = Machine::new(alloc, image, store, unit, timing)?;
     show(out, &mut machine, image.names(), budget)
 }

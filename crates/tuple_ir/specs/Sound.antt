@@ -1,6 +1,7 @@
 -- Which operands, tuples and blocks are sound.
 use Rattle.std.specs.Prelude.{◌≡◌, ℕ, ◌<◌, ◌≤◌, true, List, length, Some, slice_get}
 use Rattle.std.specs.List.{AllByRecursion}
+use Rattle.bm_base.specs.declared.limits.TheConstants.{MOST_TUPLES}
 use Rattle.bm_base.specs.Entry.{Entry}
 use Rattle.bm_base.specs.Names.{IsVariableOf, IsArrayOf}
 use Rattle.tuple_ir.specs.declared.tuple.Tuple.{Tuple}
@@ -43,7 +44,7 @@ pub record IsNextSound (tuples : List Tuple) (blocks : ℕ) (next : Next) : Type
 
 -- one of so many blocks: at most 128 tuples, each of them sound, and a sound next
 pub record IsBlockSound (names : List Entry) (blocks : ℕ) (block : Block) : Type 0 where
-  pub few : length block.tuples ≤ 128
+  pub few : length block.tuples ≤ MOST_TUPLES
   pub each : (i : ℕ) (tuple : Tuple) → slice_get block.tuples i ≡ Some tuple → IsTupleSound names block.tuples i tuple
   pub next : IsNextSound block.tuples blocks block.next
 

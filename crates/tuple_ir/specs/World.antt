@@ -1,5 +1,6 @@
 -- Cells, memory and output, and what a tuple reads and writes.
 use Rattle.std.specs.Prelude.{ℕ, zero, suc, List, [], ◌∷◌, ◌++◌, map, Option, Some, None, slice_get, slice_set, get_or, replicate, ℤ, pos}
+use Rattle.bm_base.specs.declared.limits.TheConstants.{MOST_TUPLES}
 use Rattle.bm_base.specs.Word.{unary_value, binary_value}
 use Rattle.bm_base.specs.Memory.{Content, variable, element, set_variable, set_element}
 use Rattle.tuple_ir.specs.declared.tuple.Tuple.{Tuple}
@@ -14,7 +15,7 @@ pub record World : Type 0 where
 
 -- before anything has run: 128 cells of 0, and nothing printed
 abbrev pub at_first : List Content → World
-at_first memory = record { cells = replicate 128 (pos 0); memory = memory; output = [] }
+at_first memory = record { cells = replicate MOST_TUPLES (pos 0); memory = memory; output = [] }
 
 abbrev pub cell : World → ℕ → ℤ
 cell w c = get_or w.cells c (pos 0)

@@ -1,6 +1,7 @@
 -- The lowered blocks of a program. A block takes the next unused number when it is opened, and the current block is always the one that
 -- was opened last. So what has been lowered is the row of the blocks that are ended, and the tuples of the current block behind them.
 use Rattle.std.specs.Prelude.{ℕ, ◌+◌, List, [], ◌∷◌, ◌++◌, length, map, if◌then◌else◌, nat_le}
+use Rattle.bm_base.specs.declared.limits.TheConstants.{MOST_TUPLES}
 use Rattle.src_names.specs.RProgram.{RProgram}
 use Rattle.src_names.specs.declared.resolved.RStmt.{RStmt, RStmt-F}
 use Rattle.src_names.specs.declared.resolved.RStmt.TheFolds.{fold-RStmt}
@@ -30,7 +31,7 @@ block tuples next = record { tuples = tuples; next = next }
 -- Where so many tuples more would make the current block pass 128, a new block is opened, the current one ends by a goto it, and the new
 -- one is current.
 abbrev pub cut : ℕ → Lowering
-cut more b ts = if nat_le (length ts + more) 128
+cut more b ts = if nat_le (length ts + more) MOST_TUPLES
     then record { ended = []; current = ts } else record { ended = block ts (Goto (b + 1)) ∷ []; current = [] }
 
 -- the tuples of a row behind those of the current block

@@ -1,5 +1,6 @@
 -- Private: a piece that is built, and the condition under which more is put behind it. No public clause speaks of it.
 use Rattle.std.specs.Prelude.{[], ◌∷◌, ℕ, ◌+◌, ◌*◌, ◌≤◌, ◌<◌, List, ◌++◌, length, set}
+use Rattle.bm_base.specs.declared.limits.TheConstants.{MOST_TUPLES}
 use Rattle.src_names.specs.declared.resolved.RExpr.{RExpr}
 use Rattle.src_names.specs.declared.resolved.RStmt.{RStmt}
 use Rattle.src_names.specs.Sizes.{FewNodes, AllFewNodes, count_of, statements}
@@ -17,12 +18,12 @@ continued d next = let q = next (length d.ended) d.current in record { ended = d
 pub record StmtFits (z : RStmt) (d : Piece) : Type 0 where
   pub few : FewNodes z
   pub numbers : length d.ended + 4 * count_of z < 4294967296
-  pub cells : length d.current ≤ 128
+  pub cells : length d.current ≤ MOST_TUPLES
 
 pub record BodyFits (body : List RStmt) (d : Piece) : Type 0 where
   pub few : AllFewNodes body
   pub numbers : length d.ended + 4 * statements body < 4294967296
-  pub cells : length d.current ≤ 128
+  pub cells : length d.current ≤ MOST_TUPLES
 
 -- the block of this number is followed by something else
 abbrev pub with_next : ℕ → Next → Piece → Piece

@@ -49,7 +49,7 @@ impl Draft {
 
     /// Puts a tuple behind those of the current block and gives its number.
     pub(crate) fn push(&mut self, tuple: Tuple) -> Result<u8, AllocError>
-        requires { length self.old.current < 128 }
+        requires { length self.old.current < MOST_TUPLES }
         ensures pushed { OnOk result (self.new ≡ record { ended = self.old.ended; current = self.old.current ++ tuple ∷ [] }) }
         ensures number { IfOk result (λ cell. cell ≡ length self.old.current) }
     {
@@ -71,8 +71,8 @@ impl Draft {
     /// ends by a goto a new one, which is current.
     pub(crate) fn make_room(&mut self, more: usize) -> Result<(), AllocError>
         requires numbers { length self.old.ended < 4294967295 }
-        requires few { more ≤ 128 }
-        requires cells { length self.old.current ≤ 128 }
+        requires few { more ≤ MOST_TUPLES }
+        requires cells { length self.old.current ≤ MOST_TUPLES }
         ensures { OnOk result (self.new ≡ continued self.old (cut more)) }
     {
         if self.current.items().len() + more > MOST_TUPLES {

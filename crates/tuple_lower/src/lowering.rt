@@ -7,13 +7,14 @@ ghost use Rattle.tuple_lower.specs.Blocks.{with_row, put, lower_stmt as spec_stm
 ghost use Rattle.tuple_lower.specs.Drafted.{continued, StmtFits, BodyFits, opened_choice, closed_choice, opened_loop, closed_loop};
 
 use crate::draft::Draft;
+use bm_base::{MOST_NODES, MOST_TUPLES};
 use src_names::{RExpr, RStmt, Resolved};
 use std::alloc::{AllocError, Global};
 use tuple_ir::{Blocks, Next, Tuple};
 
 /// How many nodes an expression has.
 fn size(x: &RExpr) -> usize
-    requires { nodes x.now ≤ 120 }
+    requires { nodes x.now ≤ MOST_NODES }
     ensures { result ≡ nodes x.now }
 {
     match x {
@@ -28,7 +29,7 @@ fn size(x: &RExpr) -> usize
 /// Puts the tuples of an expression behind those of the current block, and gives the number of the
 /// one that has its value.
 fn put_value(x: &RExpr, draft: &mut Draft) -> Result<u8, AllocError>
-    requires { length draft.old.current + nodes x.now ≤ 128 }
+    requires { length draft.old.current + nodes x.now ≤ MOST_TUPLES }
     ensures row { OnOk result (draft.new ≡ with_row (expr_tuples x.now) draft.old) }
     ensures cell { IfOk result (λ cell. cell + 1 ≡ length draft.new.current) }
 {
@@ -94,9 +95,9 @@ struct Test {
 
 /// Puts the condition of an `if` and opens its then-block.
 fn open_choice(cond: &RExpr, draft: &mut Draft) -> Result<Test, AllocError>
-    requires few { nodes cond.now ≤ 120 }
+    requires few { nodes cond.now ≤ MOST_NODES }
     requires numbers { length draft.old.ended < 4294967294 }
-    requires cells { length draft.old.current ≤ 128 }
+    requires cells { length draft.old.current ≤ MOST_TUPLES }
     ensures opened { OnOk result (draft.new ≡ opened_choice cond.now draft.old) }
     ensures number { IfOk result (λ test. test.number + 1 ≡ length draft.new.ended) }
     ensures cell { IfOk result (λ test. test.cell + 1
@@ -132,7 +133,7 @@ fn close_choice(test: Test, end: u32, draft: &mut Draft) -> Result<(), AllocErro
 
 /// Opens the header of a `while`, puts the condition there, and opens the body block.
 fn open_loop(cond: &RExpr, draft: &mut Draft) -> Result<Test, AllocError>
-    requires few { nodes cond.now ≤ 120 }
+    requires few { nodes cond.now ≤ MOST_NODES }
     requires numbers { length draft.old.ended < 4294967294 }
     ensures opened { OnOk result (draft.new ≡ opened_loop cond.now draft.old) }
     ensures number { IfOk result (λ test. test.number ≡ length draft.old.ended + 1) }

@@ -1,5 +1,6 @@
 -- What each block and its line keep, whatever is known of the order of its tuples.
 use Rattle.std.specs.Prelude.{◌≡◌, ℕ, ◌<◌, ◌≤◌, true, length, Some, slice_get}
+use Rattle.bm_base.specs.declared.limits.TheConstants.{MOST_MASKS}
 use Rattle.bm_base.specs.Mask.{has_bit}
 use Rattle.tuple_ir.specs.declared.block.Block.{Block}
 use Rattle.tuple_ir.specs.Sound.{IsBlockSound}
@@ -19,7 +20,7 @@ pub record IsCodeSound (m : Program) (code : Code) : Type 0 where
   pub block : IsBlockSound m.names (length m.blocks) (block_of code)
   pub fit : IsFit m code
   pub whole : (t : ℕ) → t < length code.tuples → (p k : ℕ) × StandsAt code.line t p k
-  pub few_masks : length (masks code.line) ≤ 128
+  pub few_masks : length (masks code.line) ≤ MOST_MASKS
   pub none_empty : (j mask : ℕ) → slice_get (masks code.line) j ≡ Some mask → (p : ℕ) × (has_bit mask p ≡ true)
 
 -- there is a block, and one line for each; and each is sound with its line

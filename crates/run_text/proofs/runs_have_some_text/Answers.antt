@@ -1,4 +1,3 @@
-use Rattle.bm_base.specs.Memory.{initial}
 use Rattle.timing_script.specs.Script.{script_duration}
 use Rattle.timing_script.specs.Within.{script_duration-within}
 use Rattle.run_text.specs.RunText.{choice_of}
@@ -6,5 +5,5 @@ use Rattle.run_text.proofs.LawfulKinds.{lawful}
 use Rattle.run_text.proofs.runs_have_some_text.Goals as goal
 
 pub returns : goal.returns
-returns c m kind script budget fit stand times =
-    c.runs_on_any_unit_have_one_text.ensures.some (choice_of kind) (script_duration script) m fit stand times (script_duration-within script) (lawful m (c.choices_are_lawful.ensures.static_unit m) (c.choices_are_lawful.ensures.dynamic_unit m) kind) (initial m.names) (c.laws_of_memories.ensures.first m.names) budget
+returns c m kind script memory budget fit stand times of_names =
+    c.runs_on_any_unit_have_one_text.ensures.some (choice_of kind) (script_duration script) m fit stand times (script_duration-within script) (lawful m (c.choices_are_lawful.ensures.static_unit m) (c.choices_are_lawful.ensures.dynamic_unit m) kind) memory of_names budget

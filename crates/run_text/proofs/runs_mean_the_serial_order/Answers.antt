@@ -1,5 +1,4 @@
 use Rattle.std.proofs.Common.{◌≡◌, ◌+◌, ◌≤◌, ◌∙◌, ℕ, List, Option, Some, None, sym, ap, subst, arith}
-use Rattle.bm_base.specs.Memory.{initial}
 use Rattle.bm_base.specs.Prefix.{IsPrefixOf}
 use Rattle.tuple_ir.specs.Serial.{outcome}
 use Rattle.timing_script.specs.Script.{script_duration}
@@ -11,9 +10,7 @@ use Rattle.run_text.proofs.Serials.{ends_serially}
 use Rattle.run_text.proofs.runs_mean_the_serial_order.Goals as goal
 
 pub returns-clause-means : goal.returns-clause-means
-returns-clause-means c m kind script budget text fit times det h =
-    let memory = initial m.names in
-    let of_names = c.laws_of_memories.ensures.first m.names in
+returns-clause-means c m kind script memory budget text fit times det of_names h =
     let past = h.shows.past in
     let legal = lawful m (c.choices_are_lawful.ensures.static_unit m) (c.choices_are_lawful.ensures.dynamic_unit m) kind in
     let on = c.canonical_runs_are_runs.ensures.on_unit (choice_of kind) (script_duration script) m fit times (script_duration-within script) memory past h.shows.is_last.canonical in
@@ -22,12 +19,11 @@ returns-clause-means c m kind script budget text fit times det h =
       clock = (state_after m memory past).clock;
       in_time = h.shows.is_last.in_time;
       front = subst (λ o. IsPrefixOf o (outcome m.blocks memory ((state_after m memory past).clock + 1)).world.output) (sym h.shows.output_is) (det.no_further memory past of_names run);
-      ends = λ e k. ends_serially m (state_after m memory past) (state_after m memory past).mode h.output e h.shows.output_is (sym h.shows.end_is ∙ k) (det.ends_so memory past of_names run);
+      ends = λ e k. ends_serially m memory (state_after m memory past) (state_after m memory past).mode h.output e h.shows.output_is (sym h.shows.end_is ∙ k) (det.ends_so memory past of_names run);
     }
 
 pub returns-clause-ends : goal.returns-clause-ends
-returns-clause-ends c m kind script budget k n text fit times det ended stands within is_text =
-    let memory = initial m.names in
+returns-clause-ends c m kind script memory budget k n text fit times det of_names ended stands within is_text =
     let bound : (past : List Action) → IsRun m memory past → (state_after m memory past).clock ≤ budget =
-    λ past r. (let b = (det.ends_within memory past k n (c.laws_of_memories.ensures.first m.names) r ended stands).0 in omega arith) in
-    c.bounded_runs_end.ensures m kind script budget text fit times bound is_text
+    λ past r. (let b = (det.ends_within memory past k n of_names r ended stands).0 in omega arith) in
+    c.bounded_runs_end.ensures m kind script memory budget text fit times of_names bound is_text

@@ -13,12 +13,14 @@ returns c words held =
       lawful = c.inputs_are_right.ensures.machine;
       image = c.programs_have_images.ensures.image;
       summary = c.programs_have_summaries.ensures.some;
-      fit = c.programs_have_images.ensures.fit;
-      stand = c.programs_have_images.ensures.stand;
-      times = c.programs_have_images.ensures.times;
       loaded = c.images_settle.ensures;
-      sound = c.loaded_images_are_images.ensures;
+      begun = c.beginnings_settle.ensures;
+      memories = c.memories_are_right.ensures;
+      shown = c.programs_are_shown.ensures;
       text = c.runs_have_some_text.ensures;
+      trace = c.kinds_have_one_trace.ensures.some;
+      soaks = c.soaks_settle.ensures.settles;
     })
     held
     (request_of words)
+    (c.requests_are_in_range.ensures words)

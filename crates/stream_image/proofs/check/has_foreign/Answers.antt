@@ -4,7 +4,7 @@ use Rattle.std.proofs.lemmas.Bool.Decides.{nat_tests}
 use Rattle.stream_image.proofs.Bits.{no_high}
 use Rattle.stream_image.proofs.check.has_foreign.Goals as goal
 
-pub returns-else-processors-lt128 : goal.returns-else-processors-lt128
-returns-else-processors-lt128 c =
+pub returns-else-processors-lt-MOST_PROCESSORS : goal.returns-else-processors-lt-MOST_PROCESSORS
+returns-else-processors-lt-MOST_PROCESSORS c =
     let t : nat_lt c.args.processors 128 ≡ false = grind (arith, nat_tests) in
     t ∙ sym (no_high c.args.mask c.args.processors (omega arith) (omega arith))

@@ -1,40 +1,14 @@
-use Rattle.std.proofs.Common.{sym, ap, subst, length, arith, Contains, List, refl}
-use Rattle.tuple_ir.specs.declared.tuple.Tuple.{Tuple}
-use Rattle.time_interval.specs.Bounds.{pace_on}
-use Rattle.time_interval.specs.Lines.{tuples}
-use Rattle.time_interval.specs.Edits.{Changing}
-use Rattle.stream_image.specs.declared.order.Wrong.{Wrong}
-use Rattle.stream_image.specs.declared.order.Wrong.TheVariants.{Turned, Loose}
-use Rattle.stream_image.specs.Order.{NoneWrong, IsFirstWrong}
-use Rattle.stream_image.specs.Refused.IsOrderFault.{loose}
+use Rattle.std.proofs.Common.{◌∙◌, List, Contains, sym, ap, subst}
+use Rattle.line_model.specs.declared.line.Item.{Item}
+use Rattle.time_interval.specs.Lines as lines
+use Rattle.stream_image.specs.Sorted.{line_on}
 use Rattle.stream_image.proofs.Again.{none_turned}
 use Rattle.stream_image.proofs.order.order_fault.Goals as goal
 
-pub first_pair-requires-clause-stand : goal.first_pair-requires-clause-stand
-first_pair-requires-clause-stand c = λ t l. subst (λ (b : Changing). Contains (tuples b.line) t) (sym c.in_ok-bounds.ensures) (c.requires.stand t (let e = ap length c.items-tuples.ensures in omega (arith, l)))
-
-pub first_pair-requires-2-clause-stand : goal.first_pair-requires-2-clause-stand
-first_pair-requires-2-clause-stand c = λ t l. subst (λ (b : Changing). Contains (tuples b.line) t) (sym c.in_ok-bounds.ensures) (c.requires.stand t (let e = ap length c.items-tuples.ensures in omega (arith, l)))
-
-pub returns : goal.returns
-returns c = record { none_turned = none Turned c.in_default.ensures; none_loose = none Loose c.in_default-first_pair.ensures }
-  where
-    none : (w : Wrong) → NoneWrong w c.in_ok-bounds.bounds.pace c.items-tuples.result.now c.in_ok-bounds.bounds.line → NoneWrong w (pace_on c.args.spec.now c.args.block.now.tuples) c.args.block.now.tuples c.args.line.now.items
-    none w h = subst (λ (ts : List Tuple). NoneWrong w (pace_on c.args.spec.now c.args.block.now.tuples) ts c.args.line.now.items) c.items-tuples.ensures (subst (λ (b : Changing). NoneWrong w b.pace c.items-tuples.result.now b.line) c.in_ok-bounds.ensures h)
-
-pub returns-in-Some-first_pair : goal.returns-in-Some-first_pair
-returns-in-Some-first_pair c = loose (record { a = c.in-Some-first_pair.field-0.a; b = c.in-Some-first_pair.field-0.b; fault_is = refl; none_turned = none c.in_default.ensures; first = first c.in-Some-first_pair.ensures })
-  where
-    none : NoneWrong Turned c.in_ok-bounds.bounds.pace c.items-tuples.result.now c.in_ok-bounds.bounds.line → NoneWrong Turned (pace_on c.args.spec.now c.args.block.now.tuples) c.args.block.now.tuples c.args.line.now.items
-    none h = subst (λ (ts : List Tuple). NoneWrong Turned (pace_on c.args.spec.now c.args.block.now.tuples) ts c.args.line.now.items) c.items-tuples.ensures (subst (λ (b : Changing). NoneWrong Turned b.pace c.items-tuples.result.now b.line) c.in_ok-bounds.ensures h)
-
-    first : IsFirstWrong Loose c.in_ok-bounds.bounds.pace c.items-tuples.result.now c.in_ok-bounds.bounds.line c.in-Some-first_pair.field-0.a c.in-Some-first_pair.field-0.b → IsFirstWrong Loose (pace_on c.args.spec.now c.args.block.now.tuples) c.args.block.now.tuples c.args.line.now.items c.in-Some-first_pair.field-0.a c.in-Some-first_pair.field-0.b
-    first h = subst (λ (ts : List Tuple). IsFirstWrong Loose (pace_on c.args.spec.now c.args.block.now.tuples) ts c.args.line.now.items c.in-Some-first_pair.field-0.a c.in-Some-first_pair.field-0.b) c.items-tuples.ensures (subst (λ (b : Changing). IsFirstWrong Loose b.pace c.items-tuples.result.now b.line c.in-Some-first_pair.field-0.a c.in-Some-first_pair.field-0.b) c.in_ok-bounds.ensures h)
-
 pub returns-then-branch : goal.returns-then-branch
 returns-then-branch c =
-    let loose = subst (λ (b : Changing). NoneWrong Loose b.pace c.args.block.now.tuples b.line) c.in_ok-bounds.ensures (c.in_ok-all_ordered.ensures c.if-branch.true) in
-    record { none_turned = none_turned c.args.spec.now c.args.block.now.tuples c.args.line.now.items c.machine_is_lawful.ensures c.requires.line loose; none_loose = loose }
+    let loose = c.in_ok-all_ordered.ensures c.if-branch.true in
+    record { none_turned = none_turned c.args.spec.now c.args.block.now.tuples (line_on c.args.spec.now.processors c.args.streams.now c.args.masks.now) c.machine_is_lawful.ensures c.requires.lined.line loose; none_loose = loose }
 
-pub all_ordered-requires-clause-stand : goal.all_ordered-requires-clause-stand
-all_ordered-requires-clause-stand c = λ t l. subst (λ (b : Changing). Contains (tuples b.line) t) (sym c.in_ok-bounds.ensures) (c.requires.stand t l)
+pub pair_fault-requires-clause-stand : goal.pair_fault-requires-clause-stand
+pair_fault-requires-clause-stand c = λ t l. subst (λ (xs : List Item). Contains (lines.tuples xs) t) (sym (c.in_ok-line.ensures ∙ ap (λ n. line_on n c.args.streams.now c.args.masks.now) c.processors.ensures.value)) (c.requires.lined.stand t l)

@@ -33,6 +33,6 @@ returns-clause-sent g c =
     c.requires.memory c.args.budget in (
       t.0,
       t.1,
-      c.show.ensures.sent c.args.store t.0 (as_parts (λ x y z. Starts z c.args.store v.state v.counts) choice choice' durations durations' m v.program e f p c.in_ok-machine.ensures.starts)
+      c.show.ensures.sent c.args.store t.0 (as_parts (λ x y z. Starts z c.args.store v.state v.counts) choice choice' durations durations' m v.program e f p record { state_is = c.in_ok-machine.ensures.state; counts_are = c.in_ok-machine.ensures.counts })
           (as_parts (λ x y z. IsTraceOf x y z c.args.store c.args.budget t.0) choice choice' durations durations' m v.program e f p t.1),
     )

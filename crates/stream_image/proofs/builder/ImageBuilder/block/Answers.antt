@@ -1,9 +1,9 @@
-use Rattle.std.proofs.Common.{◌≡◌, ◌∙◌, sym, ap, length, inr}
+use Rattle.std.proofs.Common.{◌≡◌, ◌≤◌, ◌∙◌, sym, ap, length, inr, arith}
 use Rattle.unit_law.specs.State.{Program}
 use Rattle.stream_image.specs.Flat.{HeldBlock}
 use Rattle.stream_image.specs.Refused.{in_block, fault_of}
 use Rattle.stream_image.specs.Refused.IsRefused.{unkept}
-use Rattle.stream_image.proofs.Accepted.{told, line_told}
+use Rattle.stream_image.proofs.Accepted.{told, lined_told}
 use Rattle.stream_image.proofs.ImageFacts.{long_map}
 use Rattle.stream_image.proofs.builder.ImageBuilder.block.Goals as goal
 
@@ -13,12 +13,8 @@ returns-in-Some-clause-refused c =
     let test = told c.first_fault.result c.self.inside.names c.self.inside.spec.processors c.processors-n.result c.args.block.tuples c.items.result.now c.args.block.next c.args.streams.now c.args.masks.now c.first_fault.ensures c.processors-n.ensures.value c.items.ensures in
     inr (unkept c.in-Some.fault (sym (test ∙ ap (λ (m : Program). fault_of m c.args.block c.args.streams.now c.args.masks.now) c.self.view_is) ∙ c.in-Some.is) (c.in_block.ensures ∙ ap (λ k. in_block k c.in-Some.fault) place))
 
-pub order_fault-requires-clause-line : goal.order_fault-requires-clause-line
-order_fault-requires-clause-line c =
+pub order_fault-requires-clause-lined : goal.order_fault-requires-clause-lined
+order_fault-requires-clause-lined c =
     let test = told c.first_fault.result c.self.inside.names c.self.inside.spec.processors c.processors-n.result c.args.block.tuples c.items.result.now c.args.block.next c.args.streams.now c.args.masks.now c.first_fault.ensures c.processors-n.ensures.value c.items.ensures in
-    (line_told c.self.inside.names c.self.inside.spec.processors c.processors-n.result c.args.block c.args.streams.now c.args.masks.now c.in-Ok.line.items (sym test ∙ c.in_default.is) c.in-Ok.ensures c.processors-n.ensures.value c.processors-n.ensures.few c.streams_are_bytes.ensures c.requires.increasing c.requires.tuples c.requires.masks).0
-
-pub order_fault-requires-clause-stand : goal.order_fault-requires-clause-stand
-order_fault-requires-clause-stand c =
-    let test = told c.first_fault.result c.self.inside.names c.self.inside.spec.processors c.processors-n.result c.args.block.tuples c.items.result.now c.args.block.next c.args.streams.now c.args.masks.now c.first_fault.ensures c.processors-n.ensures.value c.items.ensures in
-    (line_told c.self.inside.names c.self.inside.spec.processors c.processors-n.result c.args.block c.args.streams.now c.args.masks.now c.in-Ok.line.items (sym test ∙ c.in_default.is) c.in-Ok.ensures c.processors-n.ensures.value c.processors-n.ensures.few c.streams_are_bytes.ensures c.requires.increasing c.requires.tuples c.requires.masks).1
+    let most : c.self.inside.spec.processors ≤ 128 = let e = c.processors-n.ensures.value in let f = c.processors-n.ensures.few in omega arith in
+    lined_told c.self.inside.names c.self.inside.spec.processors c.args.block c.args.streams.now c.args.masks.now (sym test ∙ c.in_default.is) most c.streams_are_bytes.ensures c.requires.increasing c.requires.tuples c.requires.masks

@@ -1,0 +1,4 @@
+pub mod Statuses
+pub mod Scripts
+pub mod Memories
+pub mod Beginnings

@@ -1,0 +1,9 @@
+pub mod Folds
+pub mod Sending
+pub mod Shown
+pub mod Texts
+pub mod Agreeing
+pub mod Rows
+pub mod Kept
+pub mod Ended
+pub mod Concluding
