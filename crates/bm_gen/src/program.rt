@@ -79,6 +79,7 @@ pub fn generate(alloc: Global, seed: u64, statements: u32) -> Result<Program, Al
     ensures named { IfOk result (λ p. HasProgram p) }
     ensures short { IfOk result (λ p. length (program_text p) ≤ MOST_ITEM_BYTES * statements + MOST_DECLARATION_BYTES) }
 {
+    // Only for their contracts.
     generated_trees_are_plain();
     generated_trees_are_named();
     generated_texts_are_short();

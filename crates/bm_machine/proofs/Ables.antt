@@ -3,7 +3,7 @@ use Rattle.std.proofs.Common.{◌≡◌, ℕ, ◌+◌, ◌<◌, ◌≤◌, Bool,
 use Rattle.std.proofs.lemmas.Bool.{and_parts, cases_lt, both_ways, lt-ltb, ltb-true, false_from_ne_true}
 use Rattle.std.proofs.lemmas.Bool.Decides.{eqb_tells}
 use Rattle.std.proofs.lemmas.List.{get_or-map, length-map}
-use Rattle.bm_base.specs.Mask.{has_bit}
+use Rattle.bm_base.specs.Mask.{has_bit, HasNoneFrom, IsFirstMember}
 use Rattle.line_model.specs.declared.line.StreamItem.{StreamItem}
 use Rattle.line_model.specs.Streams.{stream}
 use Rattle.unit_law.specs.State.{Code, State, Processor, at_start, is_free, waits}
@@ -90,12 +90,21 @@ known_more f mask p old new w is bits within known q lt = right_one f old new p 
         go (inl l) = l
         go (inr g) = absurd (ne (omega arith))
 
-pub known_past : (f : ℕ → Bool) (mask p : ℕ) (set : ℕ → Bool) → has_bit mask p ≡ false → IsKnownBelow f mask p set → IsKnownBelow f mask (p + 1) set
-known_past f mask p set out known q lt = known q (λ h. below h (cases_lt q p))
+-- no member stands between
+pub known_skip : (f : ℕ → Bool) (mask from p : ℕ) (set : ℕ → Bool) → IsFirstMember mask from p → IsKnownBelow f mask from set → IsKnownBelow f mask p set
+known_skip f mask from p set next known q lt = known q (λ h. below h (cases_lt q from))
   where
-    below : has_bit mask q ≡ true → (q < p) ⊎ (p ≤ q) → q < p
+    below : has_bit mask q ≡ true → (q < from) ⊎ (from ≤ q) → q < from
     below h (inl l) = l
-    below h (inr g) = let x = lt h in let e : q ≡ p = omega arith in absurd (both_ways (has_bit mask q) (ap (has_bit mask) e ∙ out) h)
+    below h (inr g) = absurd (both_ways (has_bit mask q) (next.skipped q g (lt h)) h)
+
+-- and none from there on
+pub known_all : (f : ℕ → Bool) (mask from : ℕ) (set : ℕ → Bool) → HasNoneFrom mask from → IsKnownBelow f mask from set → (q : ℕ) → set q ≡ f q
+known_all f mask from set none known q = known q (λ h. below h (cases_lt q from))
+  where
+    below : has_bit mask q ≡ true → (q < from) ⊎ (from ≤ q) → q < from
+    below h (inl l) = l
+    below h (inr g) = absurd (both_ways (has_bit mask q) (none q g) h)
 
 pub known_first : (f : ℕ → Bool) (mask : ℕ) (set : ℕ → Bool) → ((q : ℕ) → has_bit mask q ≡ false → set q ≡ f q) → IsKnownBelow f mask 0 set
 known_first f mask set known q lt = known q (go (has_bit mask q) refl)

@@ -1,10 +1,11 @@
 -- What stays from one call to the next, and what is said of the same program, unit and timing.
-use Rattle.std.proofs.Common.{◌≡◌, ℕ, List, Option, refl, sym, ◌∙◌, subst}
+use Rattle.std.proofs.Common.{◌≡◌, ℕ, Bool, List, Option, refl, sym, ◌∙◌, subst}
 use Rattle.tuple_ir.specs.declared.event.Event.{Event}
 use Rattle.unit_law.specs.State.{Program, State}
 use Rattle.unit_law.specs.Units.{Choice}
 use Rattle.unit_law.specs.Canonical.{Durations}
 use Rattle.bm_machine.specs.Shown.{Shown}
+use Rattle.bm_machine.specs.Seeing.{UnitStays}
 use Rattle.bm_machine.specs.Next.{Stays}
 use Rattle.bm_machine.specs.Moves.{IsIdle, acts, Waited}
 
@@ -13,6 +14,13 @@ stays_first chosen a = record { program = refl; choice = refl; timing = refl }
 
 pub stays_on : {U T : Type 0} (chosen : U → Choice) (a b c : Shown U T) → Stays chosen a b → Stays chosen b c → Stays chosen a c
 stays_on chosen a b c h k = record { program = k.program ∙ h.program; choice = k.choice ∙ h.choice; timing = k.timing ∙ h.timing }
+
+-- and of a unit
+pub unit_first : {U : Type 0} (queue : U → List ℕ) (has_fired : U → List Bool) (room : U → ℕ) (chosen : U → Choice) (a : U) → UnitStays queue has_fired room chosen a a
+unit_first queue has_fired room chosen a = record { masks = refl; fired = refl; capacity = refl; choice = refl }
+
+pub unit_on : {U : Type 0} (queue : U → List ℕ) (has_fired : U → List Bool) (room : U → ℕ) (chosen : U → Choice) (a b c : U) → UnitStays queue has_fired room chosen a b → UnitStays queue has_fired room chosen b c → UnitStays queue has_fired room chosen a c
+unit_on queue has_fired room chosen a b c h k = record { masks = k.masks ∙ h.masks; fired = k.fired ∙ h.fired; capacity = k.capacity ∙ h.capacity; choice = k.choice ∙ h.choice }
 
 module _ (choice choice' : Choice) (durations durations' : Durations) (m m' : Program) (same_choice : choice' ≡ choice) (same_durations : durations' ≡ durations) (same_program : m' ≡ m) where
   pub acts_same : (b : ℕ) (counts : List ℕ) (s : State) (o : Option Event) (counts' : List ℕ) (s' : State) → acts choice' durations' m' b counts s o counts' s' → acts choice durations m b counts s o counts' s'

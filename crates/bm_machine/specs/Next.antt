@@ -126,6 +126,10 @@ left_in m s (In b) = sum_below (left_of (code_at m b) s) m.machine.processors + 
 left_in m s (Entering b) = 0
 left_in m s Ended = 0
 
+-- more than the Starts, Finishes and Fires of any block
+abbrev pub most_left : ℕ
+most_left = 1000
+
 -- the number that falls at each event but Reached and Ended
 abbrev pub still : ℕ → Program → State → ℕ
-still until m s = 1000 * (until + 1 - s.clock) + left_in m s s.mode
+still until m s = most_left * (until + 1 - s.clock) + left_in m s s.mode

@@ -5,8 +5,9 @@ ghost use Rattle.bm_base.specs.Mask.{has_bit};
 ghost use Rattle.unit_law.specs.State.{is_free, is_wait, waits, code_at};
 ghost use Rattle.unit_law.specs.Units.{has_unfired};
 ghost use Rattle.unit_law.specs.Canonical.{is_do};
-ghost use Rattle.unit_law.specs.Steps.{passed, resumed};
+ghost use Rattle.unit_law.specs.Steps.{passed};
 ghost use Rattle.bm_machine.specs.Agenda.{due_at, hold_until};
+ghost use Rattle.bm_machine.specs.Seeing.{Sees, UnitStays};
 ghost use Rattle.bm_machine.specs.Shown.{work_of, processor_of, standing_at, starts_next, dues_of};
 ghost use Rattle.bm_machine.specs.declared.actor.Actor.{Actor};
 ghost use Rattle.bm_machine.specs.declared.agenda.Due.{Due};
@@ -26,10 +27,7 @@ fn arrive_if<U: BarrierUnit>(unit: &mut U, told: &mut Mask, p: u8, waits: bool)
     requires unfired { IsTrue waits → has_unfired (U.queue unit.old) (U.fired unit.old) p ≡ true }
     ensures told { U.waiting unit.new ≡ told.new }
     ensures bits { (q : ℕ) → has_bit told.new q ≡ (has_bit told.old q || (waits && q == p)) }
-    ensures masks { U.queue unit.new ≡ U.queue unit.old }
-    ensures fired { U.fired unit.new ≡ U.fired unit.old }
-    ensures capacity { U.capacity unit.new ≡ U.capacity unit.old }
-    ensures choice { U.choice unit.new ≡ U.choice unit.old }
+    ensures unit { UnitStays U.queue U.fired U.capacity U.choice unit.old unit.new }
 {
     if waits && !told.has(p) {
         unit.arrive(p);
@@ -66,51 +64,10 @@ pub(crate) fn see<U: BarrierUnit>(
         ≡ (has_bit told.old q || ((is_free clock (work_of actor.now.task) && is_wait (slice_get stream.now actor.now.place)) && q == p)) }
     ensures able { (q : ℕ) → has_bit able.new q
         ≡ (has_bit able.old q || ((is_free clock (work_of actor.now.task) && is_do (slice_get stream.now actor.now.place)) && q == p)) }
-    ensures masks { U.queue unit.new ≡ U.queue unit.old }
-    ensures fired { U.fired unit.new ≡ U.fired unit.old }
-    ensures capacity { U.capacity unit.new ≡ U.capacity unit.old }
-    ensures choice { U.choice unit.new ≡ U.choice unit.old }
+    ensures unit { UnitStays U.queue U.fired U.capacity U.choice unit.old unit.new }
 {
     arrive_if(unit, told, p, is_waiting(stream, actor, clock));
     add_if(able, p, may_start(stream, actor, clock));
-}
-
-/// Sees of each processor whether it waits or can start a tuple.
-pub(crate) fn see_all<U: BarrierUnit>(
-    unit: &mut U,
-    told: &mut Mask,
-    able: &mut Mask,
-    image: &Image,
-    block: u32,
-    actors: &[Actor],
-    clock: u64,
-)
-    requires block { block < length image.now.blocks }
-    requires long { length actors.now ≡ image.now.machine.processors }
-    requires told { U.waiting unit.old ≡ told.old }
-    requires waits { (p : ℕ) → has_bit told.old p ≡ true → waits (code_at image.now block) (standing_at clock actors.now) p ≡ true }
-    requires starts { (p : ℕ) → has_bit able.old p ≡ true → starts_next (code_at image.now block) (standing_at clock actors.now) p ≡ true }
-    requires unfired { (p : ℕ) → waits (code_at image.now block) (standing_at clock actors.now) p ≡ true
-        → has_unfired (U.queue unit.old) (U.fired unit.old) p ≡ true }
-    ensures told { U.waiting unit.new ≡ told.new }
-    ensures bits { (p : ℕ) → has_bit told.new p ≡ waits (code_at image.now block) (standing_at clock actors.now) p }
-    ensures able { (p : ℕ) → has_bit able.new p ≡ starts_next (code_at image.now block) (standing_at clock actors.now) p }
-    ensures masks { U.queue unit.new ≡ U.queue unit.old }
-    ensures fired { U.fired unit.new ≡ U.fired unit.old }
-    ensures capacity { U.capacity unit.new ≡ U.capacity unit.old }
-    ensures choice { U.choice unit.new ≡ U.choice unit.old }
-{
-    for p in 0..image.spec().processors() {
-        see(
-            unit,
-            told,
-            able,
-            image.stream(block, p),
-            p,
-            &actors[p as usize],
-            clock,
-        );
-    }
 }
 
 /// Sees of each member of the mask whether it waits or can start a tuple. Of all others it is known.
@@ -136,27 +93,14 @@ pub(crate) fn see_members<U: BarrierUnit>(
         → has_bit able.old p ≡ starts_next (code_at image.now block) (standing_at clock actors.now) p }
     requires unfired { (p : ℕ) → waits (code_at image.now block) (standing_at clock actors.now) p ≡ true
         → has_unfired (U.queue unit.old) (U.fired unit.old) p ≡ true }
-    ensures told { U.waiting unit.new ≡ told.new }
-    ensures bits { (p : ℕ) → has_bit told.new p ≡ waits (code_at image.now block) (standing_at clock actors.now) p }
-    ensures able { (p : ℕ) → has_bit able.new p ≡ starts_next (code_at image.now block) (standing_at clock actors.now) p }
-    ensures masks { U.queue unit.new ≡ U.queue unit.old }
-    ensures fired { U.fired unit.new ≡ U.fired unit.old }
-    ensures capacity { U.capacity unit.new ≡ U.capacity unit.old }
-    ensures choice { U.choice unit.new ≡ U.choice unit.old }
+    ensures sees { Sees (code_at image.now block) (standing_at clock actors.now) (U.waiting unit.new) told.new able.new }
+    ensures unit { UnitStays U.queue U.fired U.capacity U.choice unit.old unit.new }
 {
-    for p in 0..image.spec().processors() {
-        if !mask.has(p) {
-            continue;
-        }
-        see(
-            unit,
-            told,
-            able,
-            image.stream(block, p),
-            p,
-            &actors[p as usize],
-            clock,
-        );
+    let mut from = 0;
+    while let Some(p) = mask.next_member(from) {
+        let items = image.stream(block, p);
+        see(unit, told, able, items, p, &actors[p as usize], clock);
+        from = p + 1;
     }
 }
 
@@ -179,62 +123,39 @@ pub(crate) fn release<U: BarrierUnit>(
     requires later { clock ≤ tick }
     requires agenda { agenda.old ≡ dues_of clock (map processor_of actors.now) }
     requires least { (p : ℕ) (due : Due) → due_at agenda.old p ≡ Some due → tick ≤ due.tick }
-    requires told { U.waiting unit.old ≡ told.old }
-    requires waits { (p : ℕ) → has_bit told.old p ≡ waits (code_at image.now block) (standing_at clock actors.now) p }
-    requires starts { (p : ℕ) → has_bit able.old p ≡ starts_next (code_at image.now block) (standing_at clock actors.now) p }
+    requires sees { Sees (code_at image.now block) (standing_at clock actors.now) (U.waiting unit.old) told.old able.old }
     requires unfired { (p : ℕ) → waits (code_at image.now block) (standing_at tick actors.now) p ≡ true
         → has_unfired (U.queue unit.old) (U.fired unit.old) p ≡ true }
     ensures agenda { agenda.new ≡ dues_of tick (map processor_of actors.now) }
-    ensures told { U.waiting unit.new ≡ told.new }
-    ensures bits { (p : ℕ) → has_bit told.new p ≡ waits (code_at image.now block) (standing_at tick actors.now) p }
-    ensures able { (p : ℕ) → has_bit able.new p ≡ starts_next (code_at image.now block) (standing_at tick actors.now) p }
-    ensures masks { U.queue unit.new ≡ U.queue unit.old }
-    ensures fired { U.fired unit.new ≡ U.fired unit.old }
-    ensures capacity { U.capacity unit.new ≡ U.capacity unit.old }
-    ensures choice { U.choice unit.new ≡ U.choice unit.old }
+    ensures sees { Sees (code_at image.now block) (standing_at tick actors.now) (U.waiting unit.new) told.new able.new }
+    ensures unit { UnitStays U.queue U.fired U.capacity U.choice unit.old unit.new }
 {
     while let Some(p) = agenda.pop_hold(tick) {
-        see(
-            unit,
-            told,
-            able,
-            image.stream(block, p),
-            p,
-            &actors[p as usize],
-            tick,
-        );
-    }
-}
-
-/// A processor after a mask has fired, of which it is a member or not.
-fn after_fire(actor: Actor, is_member: bool, until: u64) -> Actor
-    requires { IsTrue is_member → actor.place < 18446744073709551615 }
-    ensures { processor_of result ≡ (if is_member then resumed until (processor_of actor) else processor_of actor) }
-{
-    if is_member {
-        Actor {
-            place: actor.place + 1,
-            task: Task::Stays { until },
-        }
-    } else {
-        actor
+        let items = image.stream(block, p);
+        see(unit, told, able, items, p, &actors[p as usize], tick);
     }
 }
 
 /// The members of the mask pass their waits, and are held until this tick.
 pub(crate) fn pass(actors: &mut [Actor], mask: Mask, until: u64)
-    requires few { length actors.old ≤ MOST_PROCESSORS }
+    requires members { (p : ℕ) → has_bit mask p ≡ true → p < length actors.old }
     requires short { (p : ℕ) (a : Actor) → slice_get actors.old p ≡ Some a → has_bit mask p ≡ true → a.place < 18446744073709551615 }
     ensures { map processor_of actors.new ≡ passed until mask 0 (map processor_of actors.old) }
 {
-    for p in 0..actors.len() {
-        actors[p] = after_fire(actors[p], mask.has(p as u8), until);
+    let mut from = 0;
+    while let Some(p) = mask.next_member(from) {
+        let place = actors[p as usize].place;
+        actors[p as usize] = Actor {
+            place: place + 1,
+            task: Task::Stays { until },
+        };
+        from = p + 1;
     }
 }
 
 /// Puts the holds of the members of the mask into the agenda, where they end past the clock.
-pub(crate) fn hold(agenda: &mut Agenda, processors: u8, mask: Mask, clock: u64, until: u64)
-    requires processors { length agenda.old ≡ processors }
+pub(crate) fn hold(agenda: &mut Agenda, mask: Mask, clock: u64, until: u64)
+    requires members { (p : ℕ) → has_bit mask p ≡ true → p < length agenda.old }
     requires new { (p : ℕ) → has_bit mask p ≡ true → due_at agenda.old p ≡ None }
     ensures long { length agenda.new ≡ length agenda.old }
     ensures held { (p : ℕ) → p < length agenda.old → has_bit mask p ≡ true
@@ -244,9 +165,9 @@ pub(crate) fn hold(agenda: &mut Agenda, processors: u8, mask: Mask, clock: u64, 
     if until <= clock {
         return;
     }
-    for p in 0..processors {
-        if mask.has(p) {
-            agenda.insert(p, Due::hold(until));
-        }
+    let mut from = 0;
+    while let Some(p) = mask.next_member(from) {
+        agenda.insert(p, Due::hold(until));
+        from = p + 1;
     }
 }

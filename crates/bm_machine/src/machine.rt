@@ -8,15 +8,16 @@ ghost use Rattle.unit_law.specs.Units.{first_from};
 ghost use Rattle.unit_law.specs.Steps.{Action, Finish, Advance, Branch, Enter, May, NoneDue, after, least_tick, target};
 ghost use Rattle.unit_law.specs.Canonical.{can_start, block_branch};
 ghost use Rattle.bm_machine.specs.Shown.{IsReached};
-ghost use Rattle.bm_machine.specs.Next.{Stays, Takes, StandsFor, is_at, printed_by, IsPast, goes_on, left_in, still, ProducersHaveFinished};
+ghost use Rattle.bm_machine.specs.Next.{Stays, Takes, StandsFor, is_at, printed_by, IsPast, goes_on, left_in, most_left, still};
+ghost use Rattle.bm_machine.specs.Next.{ProducersHaveFinished};
 ghost use Rattle.bm_machine.specs.Moves.{Stands, Does, Starts, fires, IsIdle, acts, branches, Answers};
 
 use crate::actor::{Actor, Stage, Task};
 use crate::agenda::{Agenda, Due};
-use crate::arrive::{hold, pass, release, see, see_all, see_members};
+use crate::arrive::{hold, pass, release, see, see_members};
 use crate::history::History;
 use crate::laws::image_laws;
-use crate::search::{lowest, without_one};
+use crate::search::{everyone, lowest, without_one};
 use crate::work::{cell, finish_event, print, put, read, value};
 use bm_base::{MOST_BUDGET, MOST_TUPLES, Mask, Store};
 use line_model::StreamItem;
@@ -99,6 +100,7 @@ impl<'a, U: BarrierUnit, T: Timing> Machine<'a, U, T> {
         ensures choice { IfOk result (λ machine. U.choice machine.unit ≡ U.choice unit) }
         ensures timing { IfOk result (λ machine. machine.timing ≡ timing) }
     {
+        // Only for its contract.
         image_laws(image);
         let processors = usize::from(image.spec().processors());
         let rest = Actor {
@@ -113,7 +115,16 @@ impl<'a, U: BarrierUnit, T: Timing> Machine<'a, U, T> {
         let mut told = Mask::empty();
         let mut able = Mask::empty();
         unit.load(image.masks(0));
-        see_all(&mut unit, &mut told, &mut able, image, 0, &actors, 0);
+        see_members(
+            &mut unit,
+            &mut told,
+            &mut able,
+            image,
+            0,
+            &actors,
+            0,
+            everyone(image.spec().processors()),
+        );
         Ok(Machine {
             image,
             unit,
@@ -149,6 +160,7 @@ impl<'a, U: BarrierUnit, T: Timing> Machine<'a, U, T> {
         ensures value { result.now ≡ self.now.state.world.memory }
         ensures memory { IsMemoryOf self.now.program.names result.now }
     {
+        // Only for its contract.
         runs_keep_memories();
         &self.store
     }
@@ -193,6 +205,7 @@ impl<'a, U: BarrierUnit, T: Timing> Machine<'a, U, T> {
         ensures { result ≡ first_from
             (λ p. is_due self.now.state.clock (processor self.now.state p).work) 0 self.now.program.machine.processors }
     {
+        // Only for its contract.
         self.facts();
         match self.agenda.first() {
             Some(entry) if entry.due.tick == self.clock => Some(entry.processor),
@@ -205,6 +218,7 @@ impl<'a, U: BarrierUnit, T: Timing> Machine<'a, U, T> {
         requires { self.now.state.mode ≡ In block }
         ensures { result ≡ first_from (can_start (code_at self.now.program block) self.now.state) 0 self.now.program.machine.processors }
     {
+        // Only for its contract.
         self.facts();
         lowest(self.able)
     }
@@ -214,6 +228,7 @@ impl<'a, U: BarrierUnit, T: Timing> Machine<'a, U, T> {
     fn least_tick(&self) -> Option<u64>
         ensures { result ≡ least_tick self.now.state.clock self.now.state.processors }
     {
+        // Only for its contract.
         self.facts();
         match self.agenda.first() {
             Some(entry) => Some(entry.due.tick),
@@ -231,6 +246,7 @@ impl<'a, U: BarrierUnit, T: Timing> Machine<'a, U, T> {
         ensures starts { Starts (T.duration self.old.timing) self.old.program block p self.old.counts self.old.state result
             self.new.counts self.new.state }
     {
+        // Only for their contracts.
         image_laws(self.image);
         let _processors = self.image.spec().processors();
         let actor = self.actors[p as usize];
@@ -273,6 +289,7 @@ impl<'a, U: BarrierUnit, T: Timing> Machine<'a, U, T> {
         ensures stays { Stays U.choice self.old self.new }
         ensures finishes { Does self.old.program self.old.state self.old.counts (Finish p) result self.new.counts self.new.state }
     {
+        // Only for their contracts.
         image_laws(self.image);
         let _processors = self.image.spec().processors();
         let actor = self.actors[p as usize];
@@ -322,6 +339,7 @@ impl<'a, U: BarrierUnit, T: Timing> Machine<'a, U, T> {
         ensures fires { fires (U.choice self.old.unit) self.old.program block self.old.counts self.old.state result self.new.counts
             self.new.state }
     {
+        // Only for their contracts.
         self.facts();
         choices_are_lawful();
         let j = self.unit.pick()?;
@@ -329,13 +347,7 @@ impl<'a, U: BarrierUnit, T: Timing> Machine<'a, U, T> {
         let until = self.clock + u64::from(self.image.spec().barrier());
         self.told = self.told.without(mask);
         pass(&mut self.actors, mask, until);
-        hold(
-            &mut self.agenda,
-            self.image.spec().processors(),
-            mask,
-            self.clock,
-            until,
-        );
+        hold(&mut self.agenda, mask, self.clock, until);
         see_members(
             &mut self.unit,
             &mut self.told,
@@ -366,6 +378,7 @@ impl<'a, U: BarrierUnit, T: Timing> Machine<'a, U, T> {
         ensures effect { self.new.state ≡ after self.old.program self.old.state Advance }
         ensures later { self.old.state.clock < tick }
     {
+        // Only for their contracts.
         self.facts();
         let _processors = self.image.spec().processors();
         let clock = self.clock;
@@ -393,6 +406,7 @@ impl<'a, U: BarrierUnit, T: Timing> Machine<'a, U, T> {
         ensures effect { self.new.state ≡ after self.old.program self.old.state Branch }
         ensures event { result ≡ Over self.old.state.clock }
     {
+        // Only for its contract.
         self.facts();
         self.stage = Stage::Over;
         Event::Ended { at: self.clock }
@@ -408,8 +422,9 @@ impl<'a, U: BarrierUnit, T: Timing> Machine<'a, U, T> {
         ensures counts { self.new.counts ≡ self.old.counts }
         ensures effect { self.new.state ≡ after self.old.program (after self.old.program self.old.state Branch) Enter }
         ensures event { result ≡ Entered (self.old.state.clock + 1) next }
-        ensures left { left_in self.new.program self.new.state self.new.state.mode < 1000 }
+        ensures left { left_in self.new.program self.new.state self.new.state.mode < most_left }
     {
+        // Only for its contract.
         self.facts();
         self.clock += 1;
         self.stage = Stage::Inside { block: next };
@@ -421,7 +436,7 @@ impl<'a, U: BarrierUnit, T: Timing> Machine<'a, U, T> {
         self.told = Mask::empty();
         self.able = Mask::empty();
         self.unit.load(self.image.masks(next));
-        see_all(
+        see_members(
             &mut self.unit,
             &mut self.told,
             &mut self.able,
@@ -429,6 +444,7 @@ impl<'a, U: BarrierUnit, T: Timing> Machine<'a, U, T> {
             next,
             &self.actors,
             self.clock,
+            everyone(self.image.spec().processors()),
         );
         Event::Entered {
             at: self.clock,
@@ -475,6 +491,7 @@ impl<'a, U: BarrierUnit, T: Timing> Machine<'a, U, T> {
         ensures canonical { block_branch self.old.program (code_at self.old.program block) self.old.state ≡ Some Branch }
         ensures branches { branches self.old.program block until self.old.state result self.new.state }
     {
+        // Only for their contracts.
         self.facts();
         self.leaves(block);
         match self.target(block) {
@@ -492,6 +509,7 @@ impl<'a, U: BarrierUnit, T: Timing> Machine<'a, U, T> {
         ensures acts { acts (U.choice self.old.unit)
             (T.duration self.old.timing) self.old.program block self.old.counts self.old.state result self.new.counts self.new.state }
     {
+        // Only for its contract.
         self.facts();
         if let Some(p) = self.lowest_due() {
             return Some(self.finish(block, p));
@@ -515,11 +533,13 @@ impl<'a, U: BarrierUnit, T: Timing> Machine<'a, U, T> {
         ensures answers { Answers (U.choice self.old.unit)
             (T.duration self.old.timing) self.old.program self.old.counts self.old.state until result self.new.counts self.new.state }
     {
+        // Only for its contract.
         self.facts();
         loop {
             if let Some(event) = self.act(block) {
                 return event;
             }
+            // Only for its contract.
             self.facts();
             match self.least_tick() {
                 None => return self.branch(block, until),
@@ -554,6 +574,7 @@ impl<'a, U: BarrierUnit, T: Timing> Machine<'a, U, T> {
         ensures falls { goes_on result ≡ true → still until self.new.program self.new.state < still until self.old.program self.old.state }
         ensures producers { ProducersHaveFinished self.old.program self.old.state result }
     {
+        // Only for its contract.
         self.facts();
         if self.clock() > until {
             return Event::Reached;

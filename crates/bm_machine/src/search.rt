@@ -1,5 +1,5 @@
 // The processors that can go on.
-ghost use Rattle.std.specs.Prelude.{◌≡◌, ◌<◌, ◌≤◌, ◌&&◌, ◌==◌, not, ℕ, slice_get};
+ghost use Rattle.std.specs.Prelude.{◌≡◌, ◌<◌, ◌≤◌, ◌&&◌, ◌==◌, not, ℕ, nat_lt, slice_get};
 ghost use Rattle.bm_base.specs.Mask.{has_bit};
 ghost use Rattle.unit_law.specs.State.{is_free, is_wait};
 ghost use Rattle.unit_law.specs.Units.{first_from};
@@ -75,4 +75,13 @@ pub(crate) fn without_one(mask: Mask, p: u8) -> Mask
     let mut one = Mask::empty();
     one.insert(p);
     mask.without(one)
+}
+
+/// All processors of a machine that has so many.
+pub(crate) fn everyone(processors: u8) -> Mask
+    requires some { 1 ≤ processors }
+    requires few { processors ≤ MOST_PROCESSORS }
+    ensures { (p : ℕ) → has_bit result p ≡ nat_lt p processors }
+{
+    Mask::of_number(u128::MAX >> (MOST_PROCESSORS - processors))
 }

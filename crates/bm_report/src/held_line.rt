@@ -15,6 +15,7 @@ pub fn memory_line(names: &Names, store: &Store, id: u16, first: u32, piece: &mu
     requires empty { piece.old ≡ [] }
     ensures { slice_get (lines_at (slice_get names.now id) (slice_get store.now id)) (first / 8) ≡ Some piece.new }
 {
+    // Only for its contract.
     let _count = names.len();
     match names.kind(id) {
         Kind::Var { .. } => piece.text(variable_line(names, store, id).bytes()),

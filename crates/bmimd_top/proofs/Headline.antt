@@ -197,10 +197,7 @@ module _ (laws : LawsOfReadings) (before now : Seen) where
         let fit = sound_fit h.x.image q.image.sound in
         record {
           begins = h.x;
-          loaded = loaded-read told name h.x.image k.image;
-          determinate = d;
-          timed = k.timed;
-          given = k.given;
+          begun = record { loaded = loaded-read told name h.x.image k.image; determinate = d; timed = k.timed; given = k.given };
           text = t.0;
           runs = t.1;
           serial = means h.x.image (kind_of run.unit) h.x.script h.x.memory run.budget t.0 fit q.image.machine.times d q.memory t.1;
@@ -224,10 +221,7 @@ module _ (laws : LawsOfReadings) (before now : Seen) where
         let t = (judged (Traces run h.x) h.second.contents [] w.product h.second.gave).0 in
         record {
           begins = h.x;
-          loaded = loaded-read told name h.x.image k.image;
-          determinate = determinate h.x.image q.image;
-          timed = k.timed;
-          given = k.given;
+          begun = record { loaded = loaded-read told name h.x.image k.image; determinate = determinate h.x.image q.image; timed = k.timed; given = k.given };
           text = t.0;
           traces = t.1;
           out = subst (λ x. Takes before.out.taken now.out.taken x.text.lines) t.2 w.out;

@@ -135,17 +135,21 @@ pub record ReadsImage (told : Option Held) (name : List ℕ) (image : Program) :
   pub whole : length bytes ≤ MOST_IMAGE_BYTES
   pub means : IsTextOfImage bytes image
 
--- After `run` with status 0 or 8: the file is the text of an image, which is determinate; the run begins with it, with the durations of the
--- script and with the memory that the data give the image's names; the output took the text of its canonical run on this unit, one write a
--- line, and nothing else was written. The words that are printed are a prefix of those of its blocks' serial meaning from this memory;
--- where the run has ended, that has ended with these words and this memory. The status is 0 where it has ended by the budget, else 8; it
--- is 0 where k blocks have ended, none stands more than c times in their trail, and the budget is c passes over the blocks or more.
+-- The file is the text of an image, which is determinate; a run begins with it, with the durations of the script and with the memory that
+-- the data give the image's names.
+pub record ReadsBeginning (told : Option Held) (name : List ℕ) (run : RunWordsOf) (begins : Beginning) : Type 0 where
+  pub loaded : ReadsImage told name begins.image
+  pub determinate : IsDeterminate begins.image
+  pub timed : ReadsScript told run.script begins.script
+  pub given : ReadsMemory told begins.image.names run.given begins.memory
+
+-- After `run` with status 0 or 8: the run begins so; the output took the text of its canonical run on this unit, one write a line, and
+-- nothing else was written. The words that are printed are a prefix of those of its blocks' serial meaning from this memory; where the
+-- run has ended, that has ended with these words and this memory. The status is 0 where it has ended by the budget, else 8; it is 0 where
+-- k blocks have ended, none stands more than c times in their trail, and the budget is c passes over the blocks or more.
 pub record HasRunImage (before now : Seen) (name : List ℕ) (run : RunWordsOf) (status : ℕ) : Type 0 where
   pub begins : Beginning
-  pub loaded : ReadsImage before.files.held name begins.image
-  pub determinate : IsDeterminate begins.image
-  pub timed : ReadsScript before.files.held run.script begins.script
-  pub given : ReadsMemory before.files.held begins.image.names run.given begins.memory
+  pub begun : ReadsBeginning before.files.held name run begins
   pub text : Output
   pub runs : IsRunBy run begins text
   pub serial : MeansSerially begins.image begins.memory run.budget runs.output runs.end
@@ -156,15 +160,11 @@ pub record HasRunImage (before now : Seen) (name : List ℕ) (run : RunWordsOf) 
   pub ends : (c k : ℕ) → (outcome begins.image.blocks begins.memory k).next ≡ None
       → StandsAtMost c (outcome begins.image.blocks begins.memory k).trail → c * pass_time begins.image ≤ run.budget → status ≡ 0
 
--- After `trace` with status 0 or 8: the file is the text of an image, which is determinate; the run begins with it, with the durations of
--- the script and with the memory that the data give the image's names; the output took the trace of its canonical run on this unit, one
--- write a line, and nothing else was written. The status is 0 where the run has ended by the budget, else 8.
+-- After `trace` with status 0 or 8: the run begins so; the output took the trace of its canonical run on this unit, one write a line, and
+-- nothing else was written. The status is 0 where the run has ended by the budget, else 8.
 pub record HasTraced (before now : Seen) (name : List ℕ) (run : RunWordsOf) (status : ℕ) : Type 0 where
   pub begins : Beginning
-  pub loaded : ReadsImage before.files.held name begins.image
-  pub determinate : IsDeterminate begins.image
-  pub timed : ReadsScript before.files.held run.script begins.script
-  pub given : ReadsMemory before.files.held begins.image.names run.given begins.memory
+  pub begun : ReadsBeginning before.files.held name run begins
   pub text : Output
   pub traces : IsTraceBy run begins text
   pub out : Takes before.out.taken now.out.taken text.lines

@@ -137,6 +137,7 @@ pub fn bmimd<F: Files, O: Sink, E: Sink>(
         → IsUsage (seen F.held F.asked F.faults O.taken O.faults E.taken E.faults files.old out.old err.old)
         (seen F.held F.asked F.faults O.taken O.faults E.taken E.faults files.new out.new err.new) result.code }
 {
+    // Only for their contracts.
     words_have_one_step();
     laws_of_readings();
     enough_ticks_end_a_run();

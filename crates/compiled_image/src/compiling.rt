@@ -38,6 +38,7 @@ fn planned(alloc: Global, block: &Block, spec: &Spec) -> Result<PlannedBlock, Al
     requires { length block.now.tuples ≤ MOST_TUPLES }
     ensures { IfOk result (λ p. Comes spec.now block.now.tuples p.plan p.tally) }
 {
+    // Only for its contract.
     let _processors = spec.processors();
     let plan = plan(alloc, block, spec)?;
     let tally = count_pairs(alloc, block, &plan.line, spec)?;
@@ -76,10 +77,12 @@ pub fn compile(alloc: Global, program: &Resolved, spec: Spec) -> Result<Compiled
     ensures image { IfOk result (λ c. IsCompiled spec program.now c.image) }
     ensures summary { IfOk result (λ c. IsSummaryOf spec program.now c.summary) }
 {
+    // Only for their contracts.
     lowered_blocks_mean_their_programs();
     let _names = program.names();
     let blocks = lower(alloc, program)?;
     let compiled = with_plans(alloc, spec, blocks)?;
+    // Only for its contract.
     let _blocks = compiled.image.blocks();
     Ok(compiled)
 }

@@ -1,4 +1,5 @@
 // Why a file of data is not read.
+use std::alloc::AllocError;
 
 /// What is wrong with the first line that has a fault. Lines are counted from 1.
 #[derive(Clone, Copy, Debug, PartialEq, Eq)]
@@ -40,4 +41,15 @@ pub enum RowFault {
     Refused,
     /// There is no memory for its values.
     Memory,
+}
+
+impl From<AllocError> for RowFault {
+    ghost use Rattle.std.specs.Prelude.{◌≡◌};
+    ghost use Rattle.data_file.specs.declared.fault.RowFault.TheVariants.{Memory};
+
+    ghost from_gives = { λ _ e. e ≡ Memory };
+
+    fn from(_: AllocError) -> Self {
+        RowFault::Memory
+    }
 }

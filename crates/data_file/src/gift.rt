@@ -23,10 +23,8 @@ fn add(values: &mut Sequence<i64>, value: i64) -> Result<(), RowFault>
     ensures ok { OnOk result (values.new ≡ values.old ++ value ∷ []) }
     ensures err { IfErr result (λ e. e ≡ RowFault.Memory) }
 {
-    match values.push(value) {
-        Ok(()) => Ok(()),
-        Err(_) => Err(RowFault::Memory),
-    }
+    values.push(value)?;
+    Ok(())
 }
 
 /// The values that the fields spell.
@@ -56,12 +54,9 @@ pub(crate) fn read_gift<'a>(alloc: Global, mut fields: Fields<'a>) -> Result<Gif
     if !has_name_form(name) {
         return Err(RowFault::Refused);
     }
-    match values(alloc, fields) {
-        Ok(values) => if values.items().is_empty() {
-            Err(RowFault::Refused)
-        } else {
-            Ok(Gift { name, values })
-        },
-        Err(fault) => Err(fault),
+    let values = values(alloc, fields)?;
+    if values.items().is_empty() {
+        return Err(RowFault::Refused);
     }
+    Ok(Gift { name, values })
 }

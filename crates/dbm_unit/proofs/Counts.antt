@@ -27,6 +27,15 @@ pub none_pass : (f : ℕ → Bool) (n : ℕ) → ((i : ℕ) → i < n → f i �
 none_pass f zero h = none_yet f
 none_pass f (suc n) h = no_more f n (h n (omega arith)) ∙ none_pass f n (λ i lt. h i (omega arith))
 
+-- none from n on and below m passes
+pub none_join : (f : ℕ → Bool) (n m : ℕ) → n ≤ m → ((i : ℕ) → n ≤ i → i < m → f i ≡ false) → how_many f m ≡ how_many f n
+none_join f n zero le h = ap (how_many f) (omega arith)
+none_join f n (suc m) le h = go (cases_eq n (suc m)) (λ l. none_join f n m l (λ i lo hi. h i lo (omega arith)))
+  where
+    go : (n ≡ suc m) ⊎ (n ≡ suc m → ⊥) → (n ≤ m → how_many f m ≡ how_many f n) → how_many f (suc m) ≡ how_many f n
+    go (inl q) ih = ap (how_many f) (sym q)
+    go (inr ne) ih = no_more f m (h m (omega arith) (omega arith)) ∙ ih (omega arith)
+
 -- there are no more than numbers
 pub many_le : (f : ℕ → Bool) (n : ℕ) → how_many f n ≤ n
 many_le f zero = let x = none_yet f in omega arith

@@ -34,9 +34,7 @@ impl Lists {
         ensures first { self.new.first.items ≡ replicate (length self.old.first.items) None }
         ensures next { self.new.next.items ≡ self.old.next.items }
     {
-        for p in 0..self.first.len() {
-            self.first[p] = None;
-        }
+        self.first.fill(None);
     }
 
     /// Puts mask j at the front of its members' lists, and says how many they are.
@@ -54,17 +52,14 @@ impl Lists {
         ensures first_room { length self.new.first.items ≡ length self.old.first.items }
         ensures next_room { length self.new.next.items ≡ length self.old.next.items }
     {
-        // The number has 128 bits, so no processor from 128 on is a member.
-        let _number = mask.number();
         let mut size = 0;
-        for p in 0..MOST_PROCESSORS {
-            if !mask.has(p) {
-                continue;
-            }
+        let mut from = 0;
+        while let Some(p) = mask.next_member(from) {
             let member = usize::from(p);
             self.next[j * 128 + member] = self.first[member];
             self.first[member] = Some(j);
             size += 1;
+            from = p + 1;
         }
         size
     }
@@ -78,11 +73,11 @@ impl Lists {
         ensures first_room { length self.new.first.items ≡ length self.old.first.items }
         ensures next { self.new.next.items ≡ self.old.next.items }
     {
-        for p in 0..MOST_PROCESSORS {
-            if mask.has(p) {
-                let member = usize::from(p);
-                self.first[member] = self.next[j * 128 + member];
-            }
+        let mut from = 0;
+        while let Some(p) = mask.next_member(from) {
+            let member = usize::from(p);
+            self.first[member] = self.next[j * 128 + member];
+            from = p + 1;
         }
     }
 }

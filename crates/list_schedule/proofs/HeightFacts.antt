@@ -1,6 +1,6 @@
 -- Heights.
 use Rattle.std.proofs.Common.{◌≡◌, ℕ, zero, suc, ◌+◌, ◌-◌, ◌<◌, ◌≤◌, ◌⊎◌, max, true, nat_eq, List, [], ◌∷◌, map, fold, length, get_or, refl, sym, ap, ◌∙◌, inl, inr, arith, Contains, take, set, get_or-set_same, get_or-set_other, ◌≢◌, ◌*◌, ◌++◌, ◌||◌, false, filter, slice_index, slice_index_or}
-use Rattle.std.specs.List.{range_with_len, list_any}
+use Rattle.std.specs.List.{range_with_len, list_any, All}
 use Rattle.std.proofs.lemmas.List.{length-map, get_or-map, take_more}
 use Rattle.std.proofs.lemmas.List.Elements.{Contains-get_or, Contains-append_right}
 use Rattle.std.proofs.lemmas.Map.Views.{list_any-from_Contains, Contains-from_any}
@@ -37,6 +37,12 @@ most (x ∷ xs) a b le h = most xs (max a x) b (omega (arith, h zero (omega arit
 -- the greatest number is at most a bound of all
 pub greatest_least : (xs : List ℕ) (b : ℕ) → ((k : ℕ) → k < length xs → get_or xs k 0 ≤ b) → greatest xs ≤ b
 greatest_least xs b h = most xs 0 b (omega arith) h
+
+-- one of the numbers that none is above is the greatest
+pub greatest_is : (xs : List ℕ) (m : ℕ) → Contains xs m → All (λ x. x ≤ m) xs → m ≡ greatest xs
+greatest_is xs m h most =
+    let below : greatest xs ≤ m = greatest_least xs m (λ k lt. most k 0 lt) in
+    omega (arith, below, at_most_greatest xs h.0 m h.1, h.2)
 
 which : (a x : ℕ) → (max a x ≡ a) ⊎ (max a x ≡ x)
 which a x = grind arith

@@ -1,5 +1,5 @@
 -- Private: a schedule in the making, where a tuple that has no place yet starts at `never`. No public clause speaks of it.
-use Rattle.std.specs.Prelude.{◌≡◌, Bool, true, false, ℕ, ◌+◌, ◌<◌, ◌≤◌, ◌⊎◌, ◌&&◌, List, [], map, length, nat_eq, nat_lt, slice_get}
+use Rattle.std.specs.Prelude.{◌≡◌, Bool, true, false, ℕ, ◌+◌, ◌*◌, ◌<◌, ◌≤◌, ◌⊎◌, ◌&&◌, List, [], map, length, nat_eq, nat_lt, slice_get}
 use Rattle.std.specs.Prelude.{slice_index, slice_index_or, cond, Option, Some, None}
 use Rattle.std.specs.List.{range_with_len}
 use Rattle.bm_base.specs.declared.limits.TheConstants.{MOST_TUPLES, MOST_TICKS}
@@ -53,7 +53,7 @@ pub record AreStarts (times starts : List ℕ) : Type 0 where
   pub many : length starts ≡ length times
   pub few : length times ≤ MOST_TUPLES
   pub short : (u : ℕ) → slice_index times u ≤ MOST_TICKS
-  pub early : (u : ℕ) → slice_index starts u < never → slice_index starts u ≤ 128000
+  pub early : (u : ℕ) → slice_index starts u < never → slice_index starts u ≤ MOST_TUPLES * MOST_TICKS
 
 -- the tick from which on tuple t may be placed, `never` where it has a place already
 abbrev pub open_from : List ℕ → List (List ℕ) → List ℕ → ℕ → ℕ

@@ -1,5 +1,5 @@
 // Greatest times and heights.
-ghost use Rattle.std.specs.Prelude.{◌≡◌, ℕ, ◌<◌, ◌≤◌, ◌*◌, [], IfOk, length, map, max, filter, nat_eq, slice_index, slice_index_or};
+ghost use Rattle.std.specs.Prelude.{◌≡◌, ℕ, ◌<◌, ◌≤◌, ◌*◌, [], IfOk, length, map, filter, nat_eq, slice_index, slice_index_or};
 ghost use Rattle.std.specs.List.{range_with_len, list_any};
 ghost use Rattle.bm_base.specs.Spec.{time_of};
 ghost use Rattle.tuple_ir.specs.Kinds.{class_of};
@@ -27,13 +27,6 @@ pub(crate) fn greatest_times(
     Ok(times)
 }
 
-/// The larger of two numbers.
-pub(crate) fn larger(a: u32, b: u32) -> u32
-    ensures { result ≡ max a b }
-{
-    if a < b { b } else { a }
-}
-
 /// The greatest of the numbers that stand at the consumers of tuple t, 0 without one.
 fn above(deps: &Deps, heights: &[u32], t: u8) -> u32
     requires few { length heights.now ≤ MOST_TUPLES }
@@ -42,10 +35,10 @@ fn above(deps: &Deps, heights: &[u32], t: u8) -> u32
         (map (slice_index heights.now)
         (filter (λ b. list_any (nat_eq t) (slice_index_or deps.now.producers b [])) (range_with_len 0 (length heights.now)))) }
 {
-    let mut most = 0;
+    let mut most = 0u32;
     for b in 0..heights.len() as u8 {
         if deps.producers(b).contains(&t) {
-            most = larger(most, heights[b as usize]);
+            most = most.max(heights[b as usize]);
         }
     }
     most

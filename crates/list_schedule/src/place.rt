@@ -1,10 +1,9 @@
 // The loop that places the tuples of a block one by one.
-ghost use Rattle.std.specs.Prelude.{◌≡◌, ℕ, ◌<◌, ◌≤◌, length, replicate, slice_index};
+ghost use Rattle.std.specs.Prelude.{◌≡◌, ℕ, ◌*◌, ◌<◌, ◌≤◌, length, replicate, slice_index};
 ghost use Rattle.list_schedule.specs.Job.{IsJob, height};
 ghost use Rattle.list_schedule.specs.Greedy.{IsGreedy};
 ghost use Rattle.list_schedule.specs.Steps.{never, starts_of, AreTicks, job_with, plan_with};
 
-use crate::heights::larger;
 use crate::job::{Draft, Job};
 use crate::steps::{best_idle, first_open, some_idle_from, some_open_from};
 use crate::tables::{open_all, put};
@@ -29,13 +28,13 @@ pub(crate) fn place_all(job: &Job<'_>, heights: &[u32], draft: &mut Draft)
     requires idles { draft.old.idles.items ≡ replicate job.now.processors 0 }
     ensures greedy { IsGreedy (job_with job.now.processors job.now.times.items job.now.deps.now.producers)
         (plan_with (starts_of draft.new) draft.new.places.items) }
-    ensures early { (u : ℕ) → slice_index (starts_of draft.new) u ≤ 128000 }
+    ensures early { (u : ℕ) → slice_index (starts_of draft.new) u ≤ MOST_TUPLES * MOST_TICKS }
 {
     open_all(job, draft);
-    let mut tick = 0;
+    let mut tick = 0u32;
     while let Some(open) = some_open_from(job, draft) {
         let idle = some_idle_from(job, draft);
-        tick = larger(tick, larger(open, idle));
+        tick = tick.max(open.max(idle));
         let t = first_open(job, heights, draft, tick).index();
         let producers = job.deps.producers(t);
         let p = best_idle(job, draft, producers, tick).index();

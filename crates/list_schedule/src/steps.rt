@@ -21,18 +21,11 @@ fn earlier(a: Option<u32>, b: Option<u32>) -> Option<u32>
 {
     match a {
         Some(x) => match b {
-            Some(y) => Some(smaller(x, y)),
+            Some(y) => Some(x.min(y)),
             None => Some(x),
         },
         None => b,
     }
-}
-
-/// The smaller of two numbers.
-fn smaller(a: u32, b: u32) -> u32
-    ensures { result ≡ min a b }
-{
-    if b < a { b } else { a }
 }
 
 /// The least tick from which on some processor is idle.
@@ -43,7 +36,7 @@ pub(crate) fn some_idle_from(job: &Job<'_>, draft: &Draft) -> u32
 {
     let mut least = idle_from(job, draft, 0);
     for p in 1..job.processors {
-        least = smaller(least, idle_from(job, draft, p));
+        least = least.min(idle_from(job, draft, p));
     }
     least
 }

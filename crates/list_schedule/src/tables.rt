@@ -1,10 +1,11 @@
 // The tables of a schedule in the making, as tuples get their places.
-ghost use Rattle.std.specs.Prelude.{◌≡◌, ℕ, ◌<◌, ◌≤◌, [], List, Some, max, length, All, Contains, nat_eq, set, slice_index, slice_index_or};
+ghost use Rattle.std.specs.Prelude.{◌≡◌, ℕ, ◌*◌, ◌<◌, ◌≤◌, [], List, Some, max, length, All, Contains, nat_eq, set, slice_index};
+ghost use Rattle.std.specs.Prelude.{slice_index_or};
 ghost use Rattle.std.specs.List.{list_any};
 ghost use Rattle.list_schedule.specs.Steps.{never, Tells, starts_of, AreTicks, finish_of, ready_from, open_from, AreStarts, AreTables};
 
-use crate::heights::larger;
 use crate::job::{Draft, Job, NEVER};
+use bm_base::{MOST_TICKS, MOST_TUPLES};
 
 /// A tuple's finish, none where it has no place.
 fn finish(job: &Job<'_>, draft: &Draft, u: u8) -> Option<u32>
@@ -25,7 +26,7 @@ fn later(a: Option<u32>, b: Option<u32>) -> Option<u32>
 {
     match a {
         Some(x) => match b {
-            Some(y) => Some(larger(x, y)),
+            Some(y) => Some(x.max(y)),
             None => None,
         },
         None => None,
@@ -126,7 +127,7 @@ pub(crate) fn put(job: &Job<'_>, draft: &mut Draft, t: u8, p: u8, tick: u32)
     requires ticks { AreTicks draft.old.starts.items }
     requires places { length draft.old.places.items ≡ length job.now.times.items }
     requires free { slice_index (starts_of draft.old) t ≡ never }
-    requires early { tick ≤ 128000 }
+    requires early { tick ≤ MOST_TUPLES * MOST_TICKS }
     requires earlier { (b a : ℕ) → b < length job.now.times.items → Contains (slice_index_or job.now.deps.now.producers b []) a → a < b }
     requires tables { AreTables job.now.processors job.now.times.items job.now.deps.now.producers draft.old }
     ensures starts { draft.new.starts.items ≡ set draft.old.starts.items t (Some tick) }
@@ -135,7 +136,7 @@ pub(crate) fn put(job: &Job<'_>, draft: &mut Draft, t: u8, p: u8, tick: u32)
 {
     draft.starts[t as usize] = Some(tick);
     draft.places[t as usize] = p;
-    let idle = larger(draft.idles[p as usize], tick + job.times[t as usize]);
+    let idle = draft.idles[p as usize].max(tick + job.times[t as usize]);
     draft.idles[p as usize] = idle;
     reopen(job, draft, t);
 }

@@ -1,8 +1,7 @@
 -- Known keys, and the first unknown key of a table whose keys ascend.
-use Rattle.std.proofs.Common.{◌≡◌, ℕ, ◌+◌, ◌<◌, true, false, ◌||◌, List, [], ◌∷◌, Option, Some, None, String, Global, string_bytes, Ordering, Less, Equal, Greater, nat_cmp, Bor, map, length, drop, get_or, refl, ap}
-use Rattle.std.proofs.lemmas.List.{drop_more}
+use Rattle.std.proofs.Common.{◌≡◌, ℕ, true, false, ◌||◌, List, [], ◌∷◌, Option, Some, None, String, Global, string_bytes, Ordering, Less, Equal, Greater, nat_cmp, Bor, map, refl, ap}
 use Rattle.std.specs.Cmp.Lexicographic.{slice_cmp}
-use Rattle.std.specs.List.{AllByRecursion}
+use Rattle.std.specs.List.{AllByRecursion, list_any}
 use Rattle.std.specs.List.Sorted.{IsStrictlySortedBy}
 use Rattle.std.specs.Map as entries
 use Rattle.std.specs.Ordering.{match_ordering}
@@ -12,10 +11,10 @@ use Rattle.toml.specs.View.{members_view}
 use Rattle.toml.specs.declared.value.Value.{Value}
 use Rattle.machine_file.specs.Keys.{keys_of, is_among, first_of, first_unknown}
 
--- one key more
-pub among_here : (known : List (Bor (List ℕ))) (i : ℕ) (key : List ℕ) (d : Bor (List ℕ)) → i < length known
-    → is_among (map (λ k. k.now) (drop i known)) key ≡ (bytes_eq key (get_or known i d).now || is_among (map (λ k. k.now) (drop (i + 1) known)) key)
-among_here known i key d h = rw (drop_more known i d h)
+-- a key that is the same as one of these is among them
+pub among_any : (known : List (Bor (List ℕ))) (key : List ℕ) → list_any (λ k. bytes_eq k.now key) known ≡ is_among (map (λ k. k.now) known) key
+among_any [] key = refl
+among_any (k ∷ known) key = ap (λ b. bytes_eq k.now key || b) (among_any known key)
 
 -- the keys of the members that a map stands for
 pub keys_view : (es : List (String Global × Value)) → keys_of (members_view es) ≡ map string_bytes (entries.keys_of es)

@@ -23,7 +23,7 @@ keys_of (member key d ms) = key ∷ keys_of ms
 -- the key is one of these
 abbrev pub is_among : List (List ℕ) → List ℕ → Bool
 is_among [] key = false
-is_among (k ∷ ks) key = bytes_eq key k || is_among ks key
+is_among (k ∷ ks) key = bytes_eq k key || is_among ks key
 
 -- the one that comes first in byte order
 abbrev pub first_of : List ℕ → Option (List ℕ) → List ℕ

@@ -95,10 +95,7 @@ fn read_intervals(
     ensures time { AllByRecursion IsTime intervals.new }
 {
     for (place, key) in keys.iter().enumerate() {
-        match interval(alloc, times, *key) {
-            Ok(time) => intervals[place] = time,
-            Err(fault) => return Err(fault),
-        }
+        intervals[place] = interval(alloc, times, *key)?;
     }
     Ok(())
 }
@@ -110,21 +107,14 @@ fn intervals_of_classes(alloc: Global, times: &Table) -> Result<[Interval; 9], M
     ensures time { IfOk result (λ ts. AllByRecursion IsTime ts) }
 {
     let mut intervals = [Interval { least: 1, most: 1 }; 9];
-    match read_intervals(alloc, times, &CLASS_KEYS, &mut intervals) {
-        Ok(()) => Ok(intervals),
-        Err(fault) => Err(fault),
-    }
+    read_intervals(alloc, times, &CLASS_KEYS, &mut intervals)?;
+    Ok(intervals)
 }
 
 fn is_among(known: &[&str], key: &str) -> bool
     ensures { result ≡ keys.is_among (map (λ k. k.now) known.now) key.now }
 {
-    for other in known {
-        if key == *other {
-            return true;
-        }
-    }
-    false
+    known.contains(&key)
 }
 
 /// The first key of a table, in byte order, that is none of these.
@@ -154,10 +144,8 @@ fn has_only(alloc: Global, table: &Table, known: &[&str], prefix: &str) -> Resul
 fn no_unknown(alloc: Global, document: &Table, times: &Table) -> Result<(), MachineFault>
     ensures { spec.Tells (λ _. tt) (spec.no_unknown (table_view document.now) (table_view times.now)) result }
 {
-    match has_only(alloc, document, &TOP_KEYS, "") {
-        Ok(()) => has_only(alloc, times, &CLASS_KEYS, "times."),
-        Err(fault) => Err(fault),
-    }
+    has_only(alloc, document, &TOP_KEYS, "")?;
+    has_only(alloc, times, &CLASS_KEYS, "times.")
 }
 
 /// How many processors.

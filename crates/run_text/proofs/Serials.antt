@@ -1,5 +1,5 @@
 -- The end of a run is one of the serial meaning.
-use Rattle.std.proofs.Common.{◌≡◌, ◌+◌, ℤ, List, Some, refl, sym, ap, subst, ◌∙◌}
+use Rattle.std.proofs.Common.{◌≡◌, ◌+◌, ℤ, List, Some, refl, sym, subst, ◌∙◌}
 use Rattle.bm_base.specs.Memory.{Content}
 use Rattle.tuple_ir.specs.Serial.{outcome}
 use Rattle.unit_law.specs.State.{Program, Mode, In, Entering, Ended, State}

@@ -18,7 +18,7 @@ use Rattle.bm_report.specs.Text.{end_lines}
 use Rattle.bm_course.specs.Course.{Output}
 use Rattle.bm_course.specs.Sends.{Sends}
 use Rattle.bm_course.proofs.Sending.{first_stops, then_sends}
-use Rattle.run_text.specs.RunText.{run_text, run_status, ending, IsTextOf}
+use Rattle.run_text.specs.RunText.{run_text, run_status, ending, ending_text, IsTextOf}
 use Rattle.run_text.specs.Laws.{TextsAreOne}
 use Rattle.run_text.specs.Begins.{Begins}
 
@@ -61,6 +61,10 @@ as_parts P choice choice' durations durations' m m' a b c h = subst (λ x. P x d
 -- the lines of an end, by equal parts
 pub end_as : (clock tick : ℕ) (names others : List Entry) (memory held : List Content) → clock ≡ tick → names ≡ others → memory ≡ held → end_lines clock names memory ≡ end_lines tick others held
 end_as clock tick names others memory held e f d = ap (λ x. end_lines x names memory) e ∙ ap (λ x. end_lines tick x memory) f ∙ ap (λ x. end_lines tick others x) d
+
+-- how a run stands, by equal names
+pub ending_as : (names others : List Entry) (budget : ℕ) (end : Option End) (before now : Taken) (r : Result ℕ SinkFault) → names ≡ others → Sends before now (ending_text names budget end) r → Sends before now (ending_text others budget end) r
+ending_as names others budget end before now r e h = subst (λ n. Sends before now (ending_text n budget end) r) e h
 
 pub sent_as : {T : Type 0} (before now : Taken) (xs ys : List (List ℕ)) (r : Result T SinkFault) → xs ≡ ys → Sent before now xs r → Sent before now ys r
 sent_as before now xs ys r e h = subst (λ x. Sent before now x r) e h

@@ -27,6 +27,9 @@ abbrev pub ending : List Entry → ℕ → Option End → List (List ℕ)
 ending names budget (Some e) = end_lines e.clock names e.memory
 ending names budget None = going_lines budget
 
+abbrev pub ending_text : List Entry → ℕ → Option End → Output
+ending_text names budget end = record { status = run_status end; lines = ending names budget end }
+
 -- a line for each print, and then how the run stands at its budget
 abbrev pub run_text : List Entry → ℕ → List ℤ → Option End → Output
 run_text names budget output end = record {

@@ -4,6 +4,7 @@
 //! any unit with any timing, and `write_run` on a unit of a kind with the durations of a script.
 #![tactic(auto)]
 
+mod ending;
 mod kind;
 #[cfg(test)]
 mod tests;
@@ -22,6 +23,7 @@ ghost use Rattle.run_text.specs.Serial.{RunsMeanTheSerialOrder, SerialEndsAreTol
 ghost use Rattle.run_text.specs.Laws.{TextsAreOne, RunsHaveSomeText, BoundedRunsTellTheirEnd};
 
 use bm_run::a_run_shows_one_thing;
+pub use ending::write_ending;
 pub use kind::UnitKind;
 use unit_law::{canonical_runs_are_runs, choices_are_lawful, lawful_units_run};
 pub use writing::{machine_before, write_run, write_run_on};

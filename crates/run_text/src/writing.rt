@@ -14,11 +14,10 @@ ghost use Rattle.bm_course.specs.Sends.{Sends};
 ghost use Rattle.run_text.specs.RunText.{IsTextOf, IsRunText};
 ghost use Rattle.run_text.specs.Begins.{Begins, SendsText};
 
-use crate::{UnitKind, runs_have_some_text, runs_on_any_unit_have_one_text};
+use crate::{UnitKind, runs_have_some_text, runs_on_any_unit_have_one_text, write_ending};
 use bm_base::{MOST_BUDGET, Names, Store};
 use bm_io::{LineValues, Sink, SinkFault};
 use bm_machine::Machine;
-use bm_report::{write_end, write_going};
 use bm_run::{Prints, RunEnd, a_run_begins, run_prints};
 use dbm_unit::Dbm;
 use sbm_unit::Sbm;
@@ -48,6 +47,7 @@ pub fn machine_before<'a, U: BarrierUnit, T: Timing>(
     ensures timing { IfOk result (λ machine. machine.timing ≡ timing) }
     ensures begins { IfOk result (λ machine. Begins (U.choice unit) (T.duration timing) image.now store machine.state machine.counts) }
 {
+    // Only for its contract.
     a_run_begins();
     Machine::new(alloc, image, store, unit, timing)
 }
@@ -82,17 +82,10 @@ fn show<U: BarrierUnit, T: Timing, O: Sink>(
     ensures sent { SendsText U.choice T.duration machine.old budget (O.taken out.old) (O.taken out.new) result }
     ensures cause { HasCause Failed (O.faults out.old) (O.faults out.new) result }
 {
+    // Only for its contract.
     runs_on_any_unit_have_one_text();
-    match write_prints(out, machine, budget)? {
-        RunEnd::Ended => {
-            write_end(out, machine.clock(), names, machine.store())?;
-            Ok(0)
-        }
-        RunEnd::Going => {
-            write_going(out, budget)?;
-            Ok(8)
-        }
-    }
+    let end = write_prints(out, machine, budget)?;
+    write_ending(out, machine, names, budget, end)
 }
 
 /// Writes the text of the run of a program from this memory, on this unit with this timing, at clocks
@@ -118,6 +111,7 @@ pub fn write_run_on<U: BarrierUnit, T: Timing, O: Sink>(
         × Sends (O.taken out.old) (O.taken out.new) text result }
     ensures cause { HasCause Failed (O.faults out.old) (O.faults out.new) result }
 {
+    // Only for their contracts.
     let _blocks = image.blocks();
     runs_on_any_unit_have_one_text();
     let mut machine = machine_before(alloc, image, store, unit, timing)?;
@@ -141,6 +135,7 @@ pub fn write_run<O: Sink>(
         × Sends (O.taken out.old) (O.taken out.new) text result }
     ensures cause { HasCause Failed (O.faults out.old) (O.faults out.new) result }
 {
+    // Only for their contracts.
     let _blocks = image.blocks();
     choices_are_lawful();
     runs_have_some_text();

@@ -151,6 +151,7 @@ pub fn show_program(
     requires statements { statements program.now.body < 2 ^ 28 }
     ensures { IfOk result (λ shown. AreShown spec.now (blocks_of program.now) shown) }
 {
+    // Only for their contracts.
     lowered_blocks_mean_their_programs();
     let _names = program.names();
     let lowered = lower(alloc, program)?;

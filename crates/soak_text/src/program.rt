@@ -35,6 +35,7 @@ pub(crate) fn read_program(alloc: Global, seed: u64, statements: u32) -> Result<
     ensures few { IfOk result (λ program. count_statements program.body < 2 ^ 28) }
     ensures starved { IfErr result (λ fault. fault ≡ Memory) }
 {
+    // Only for their contracts.
     generated_trees_are_named();
     generated_texts_are_read_back();
     let text = generated_text(alloc, seed, statements)?;

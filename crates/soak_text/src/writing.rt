@@ -64,6 +64,7 @@ fn write_run<O: Sink>(
         → SendsParts (O.taken out.old) (O.taken out.new) (run_part kind pace shown ∷ []) result }
     ensures cause { HasCause Failed (O.faults out.old) (O.faults out.new) result }
 {
+    // Only for its contract.
     runs_are_shown();
     let ran = run_image(alloc, image, seed, kind, pace)?;
     out.write(run_line(kind, pace, ran).bytes())?;
@@ -143,6 +144,7 @@ pub fn write_soak<O: Sink>(
     ensures sent { (text : Output) × IsSoak seed statements text × Sends (O.taken out.old) (O.taken out.new) text result }
     ensures cause { HasCause Failed (O.faults out.old) (O.faults out.new) result }
 {
+    // Only for their contracts.
     soaks_have_one_text();
     runs_are_shown();
     let program = read_program(alloc, seed, statements)?;

@@ -33,6 +33,7 @@ pub fn read_source(alloc: Global, bytes: &[u8]) -> Result<Resolved, SourceFault>
     ensures only_fault { (e : SourceFault) → FirstFault bytes.now e
         → MatchResult result (λ _. ⊥) (λ x. (x ≡ e) ⊎ (x ≡ SourceFault.Memory)) }
 {
+    // Only for its contract.
     derived_trees_are_plain();
     let tokens = lex(alloc, bytes)?;
     let tree = parse(alloc, bytes, &tokens)?;

@@ -79,10 +79,10 @@ fn run<V: Values>(
             set_element(*name, index, value, store);
             Ok(End::Done)
         }
-        RStmt::Print { value: x } => match out.value(value_in(x, store)) {
-            Ok(()) => Ok(End::Done),
-            Err(fault) => Err(fault),
-        },
+        RStmt::Print { value: x } => {
+            out.value(value_in(x, store))?;
+            Ok(End::Done)
+        }
         RStmt::If { cond, yes, no } => {
             if value_in(cond, store) == 0 {
                 run_all(no.as_slice(), store, turns, out)
@@ -96,10 +96,9 @@ fn run<V: Values>(
                     return Ok(End::More);
                 }
                 *turns -= 1;
-                match run_all(body.as_slice(), store, turns, out) {
-                    Ok(End::Done) => {}
-                    Ok(End::More) => return Ok(End::More),
-                    Err(fault) => return Err(fault),
+                match run_all(body.as_slice(), store, turns, out)? {
+                    End::Done => {}
+                    End::More => return Ok(End::More),
                 }
             }
             Ok(End::Done)
@@ -122,10 +121,9 @@ fn run_all<V: Values>(
     ensures lender { V.lender out.new ≡ V.lender out.old }
 {
     for stmt in body {
-        match run(stmt, store, turns, out) {
-            Ok(End::Done) => {}
-            Ok(End::More) => return Ok(End::More),
-            Err(fault) => return Err(fault),
+        match run(stmt, store, turns, out)? {
+            End::Done => {}
+            End::More => return Ok(End::More),
         }
     }
     Ok(End::Done)

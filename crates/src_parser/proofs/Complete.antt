@@ -218,7 +218,7 @@ module _ (src : List ℕ) where
       run_append r.leads (run_then (step_closed src st goal r.parts [] r.last x r.mode c sym next r.is h other k (at_end tt r) (e r.mode)) after)
 
   abbrev pub opened : State → Head → State
-  opened st head = record st { blocks = record { before = st.body; head = head } ∷ st.blocks; body = []; mode = m.Item }
+  opened st head = record st { bodies = record { before = st.body; head = head } ∷ st.bodies; body = []; mode = m.Item }
 
   -- The tokens lead behind what is complete then, be it an `if` that may still get its `else`.
   pub record Ends (a : State) (ts : List Token) (b : State) : Type 0 where

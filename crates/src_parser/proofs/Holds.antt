@@ -18,7 +18,7 @@ use Rattle.src_parser.specs.declared.machine.Goal.TheVariants as g
 use Rattle.src_parser.specs.declared.machine.Part.{Part}
 use Rattle.src_parser.specs.declared.machine.Head.{Head}
 use Rattle.src_parser.specs.declared.machine.Head.TheVariants as hd
-use Rattle.src_parser.specs.declared.machine.Block.{Block}
+use Rattle.src_parser.specs.declared.machine.OpenBody.{OpenBody}
 use Rattle.src_parser.specs.declared.machine.Mode.{Mode}
 use Rattle.src_parser.specs.declared.machine.Mode.TheVariants as m
 use Rattle.src_parser.specs.declared.machine.State.{State}
@@ -40,9 +40,9 @@ pub data Headed (src : List ℕ) : Head → List Token → Type 0 where
       Is z (Word w.Else) → Is o (Sym y.LBrace) → Headed src (hd.Else c ys) (t ∷ (vs ++ (us ++ (z ∷ o ∷ []))))
 
 -- the bodies that are open
-pub data Encloses (src : List ℕ) : List Block → List Token → Type 0 where
+pub data Encloses (src : List ℕ) : List OpenBody → List Token → Type 0 where
   top : Encloses src [] []
-  inside : {bs : List Block} {ts us hs : List Token} {body : List Stmt} {head : Head} →
+  inside : {bs : List OpenBody} {ts us hs : List Token} {body : List Stmt} {head : Head} →
       Encloses src bs ts → IsBody src us body → Headed src head hs → Encloses src (record { before = body; head = head } ∷ bs) (ts ++ (us ++ hs))
 
 -- what stands before an expression, in its statement
@@ -56,38 +56,38 @@ pub data Begun (src : List ℕ) : Goal → List Token → Type 0 where
   repeat : {t : Token} → Is t (Word w.While) → Begun src g.While (t ∷ [])
 
 -- before the first statement
-pub record Fresh (blocks : List Block) (body : List Stmt) : Type 0 where
-  pub no_block : blocks ≡ []
+pub record Fresh (bodies : List OpenBody) (body : List Stmt) : Type 0 where
+  pub no_body : bodies ≡ []
   pub no_stmt : body ≡ []
 
 -- what has been read of a declaration or a statement
-pub data Half (src : List ℕ) (blocks : List Block) (body : List Stmt) : Mode → List Token → Type 0 where
-  items : Half src blocks body m.Item []
-  var : {t : Token} → Fresh blocks body → Is t (Word w.Var) → Half src blocks body m.Var (t ∷ [])
-  var_name : {t n : Token} → Fresh blocks body → Is t (Word w.Var) → Is n Name → Half src blocks body (m.VarName (ident src n)) (t ∷ n ∷ [])
-  var_assign : {t n o : Token} → Fresh blocks body → Is t (Word w.Var) → Is n Name → Is o (Sym y.Assign) → Half src blocks body (m.VarAssign (ident src n)) (t ∷ n ∷ o ∷ [])
-  var_minus : {t n o b : Token} → Fresh blocks body → Is t (Word w.Var) → Is n Name → Is o (Sym y.Assign) → Is b (Sym y.Sub) →
-      Half src blocks body (m.VarMinus (ident src n)) (t ∷ n ∷ o ∷ b ∷ [])
-  array_word : {t : Token} → Fresh blocks body → Is t (Word w.Array) → Half src blocks body m.Array (t ∷ [])
-  array_name : {t n : Token} → Fresh blocks body → Is t (Word w.Array) → Is n Name → Half src blocks body (m.ArrayName (ident src n)) (t ∷ n ∷ [])
-  array_open : {t n o : Token} → Fresh blocks body → Is t (Word w.Array) → Is n Name → Is o (Sym y.LBracket) →
-      Half src blocks body (m.ArrayOpen (ident src n)) (t ∷ n ∷ o ∷ [])
-  array_len : {t n o b : Token} {v : ℤ} → Fresh blocks body → Is t (Word w.Array) → Is n Name → Is o (Sym y.LBracket) → Is b (Number v) →
-      Half src blocks body (m.ArrayLen (ident src n) v) (t ∷ n ∷ o ∷ b ∷ [])
-  declared : {ts : List Token} {x : Decl} → Fresh blocks body → ((f : Token) → Is f (Sym y.Semi) → IsDecl src (ts ++ f ∷ []) x) →
-      Half src blocks body (m.Declared x) ts
-  name : {t : Token} → Is t Name → Half src blocks body (m.Name (ident src t)) (t ∷ [])
+pub data Half (src : List ℕ) (bodies : List OpenBody) (body : List Stmt) : Mode → List Token → Type 0 where
+  items : Half src bodies body m.Item []
+  var : {t : Token} → Fresh bodies body → Is t (Word w.Var) → Half src bodies body m.Var (t ∷ [])
+  var_name : {t n : Token} → Fresh bodies body → Is t (Word w.Var) → Is n Name → Half src bodies body (m.VarName (ident src n)) (t ∷ n ∷ [])
+  var_assign : {t n o : Token} → Fresh bodies body → Is t (Word w.Var) → Is n Name → Is o (Sym y.Assign) → Half src bodies body (m.VarAssign (ident src n)) (t ∷ n ∷ o ∷ [])
+  var_minus : {t n o b : Token} → Fresh bodies body → Is t (Word w.Var) → Is n Name → Is o (Sym y.Assign) → Is b (Sym y.Sub) →
+      Half src bodies body (m.VarMinus (ident src n)) (t ∷ n ∷ o ∷ b ∷ [])
+  array_word : {t : Token} → Fresh bodies body → Is t (Word w.Array) → Half src bodies body m.Array (t ∷ [])
+  array_name : {t n : Token} → Fresh bodies body → Is t (Word w.Array) → Is n Name → Half src bodies body (m.ArrayName (ident src n)) (t ∷ n ∷ [])
+  array_open : {t n o : Token} → Fresh bodies body → Is t (Word w.Array) → Is n Name → Is o (Sym y.LBracket) →
+      Half src bodies body (m.ArrayOpen (ident src n)) (t ∷ n ∷ o ∷ [])
+  array_len : {t n o b : Token} {v : ℤ} → Fresh bodies body → Is t (Word w.Array) → Is n Name → Is o (Sym y.LBracket) → Is b (Number v) →
+      Half src bodies body (m.ArrayLen (ident src n) v) (t ∷ n ∷ o ∷ b ∷ [])
+  declared : {ts : List Token} {x : Decl} → Fresh bodies body → ((f : Token) → Is f (Sym y.Semi) → IsDecl src (ts ++ f ∷ []) x) →
+      Half src bodies body (m.Declared x) ts
+  name : {t : Token} → Is t Name → Half src bodies body (m.Name (ident src t)) (t ∷ [])
   target : {t o c : Token} {us : List Token} {i : Expr} → Is t Name → Is o (Sym y.LBracket) → IsExpr src 0 us i → Is c (Sym y.RBracket) →
-      Half src blocks body (m.Target (ident src t) i) (t ∷ o ∷ (us ++ c ∷ []))
-  awaits : {goal : Goal} {ps : List Part} {ts us : List Token} → Begun src goal ts → Opens src ps us → Half src blocks body (m.Operand goal ps) (ts ++ us)
+      Half src bodies body (m.Target (ident src t) i) (t ∷ o ∷ (us ++ c ∷ []))
+  awaits : {goal : Goal} {ps : List Part} {ts us : List Token} → Begun src goal ts → Opens src ps us → Half src bodies body (m.Operand goal ps) (ts ++ us)
   named : {goal : Goal} {ps : List Part} {ts us : List Token} {t : Token} → Begun src goal ts → Opens src ps us → Is t Name →
-      Half src blocks body (m.Named goal ps (ident src t)) (ts ++ (us ++ t ∷ []))
+      Half src bodies body (m.Named goal ps (ident src t)) (ts ++ (us ++ t ∷ []))
   value : {goal : Goal} {ps : List Part} {ts us vs : List Token} {x : Expr} → Begun src goal ts → Opens src ps us → IsExpr src operand vs x →
-      Half src blocks body (m.Value goal ps x) (ts ++ (us ++ vs))
+      Half src bodies body (m.Value goal ps x) (ts ++ (us ++ vs))
   chosen : {t : Token} {vs us : List Token} {c : Expr} {ys : List Stmt} → Is t (Word w.If) → IsExpr src 0 vs c → IsBlock src us ys →
-      Half src blocks body (m.AfterIf c ys) (t ∷ (vs ++ us))
+      Half src bodies body (m.AfterIf c ys) (t ∷ (vs ++ us))
   else_word : {t z : Token} {vs us : List Token} {c : Expr} {ys : List Stmt} → Is t (Word w.If) → IsExpr src 0 vs c → IsBlock src us ys →
-      Is z (Word w.Else) → Half src blocks body (m.Else c ys) (t ∷ (vs ++ (us ++ z ∷ [])))
+      Is z (Word w.Else) → Half src bodies body (m.Else c ys) (t ∷ (vs ++ (us ++ z ∷ [])))
 
 pub record Holds (src : List ℕ) (ts : List Token) (st : State) : Type 0 where
   pub declaring : List Token
@@ -96,9 +96,9 @@ pub record Holds (src : List ℕ) (ts : List Token) (st : State) : Type 0 where
   pub last : List Token
   pub split : ts ≡ declaring ++ (enclosing ++ (done ++ last))
   pub decls : AreDecls src declaring st.decls
-  pub blocks : Encloses src st.blocks enclosing
+  pub bodies : Encloses src st.bodies enclosing
   pub body : IsBody src done st.body
-  pub mode : Half src st.blocks st.body st.mode last
+  pub mode : Half src st.bodies st.body st.mode last
 
 abbrev pub Keeps : List ℕ → List Token → Option State → Type 0
 Keeps src ts None = Unit {0}
@@ -110,7 +110,7 @@ pub record Around (src : List ℕ) (st : State) : Type 0 where
   pub enclosing : List Token
   pub done : List Token
   pub decls : AreDecls src declaring st.decls
-  pub blocks : Encloses src st.blocks enclosing
+  pub bodies : Encloses src st.bodies enclosing
   pub body : IsBody src done st.body
 
 abbrev pub all : {src : List ℕ} {st : State} → Around src st → List Token → List Token
@@ -127,9 +127,9 @@ decls_append {src} {us = us} {x = x} gr.AreDecls.none h = let P : List Token →
 decls_append {src} {us = us} {xs = xs} {x = x} (gr.AreDecls.more {ts = fs} {us = bs} {x = z} {ds = zs} f r) h =
     let P : List Token → Type 0 = λ ts. AreDecls src ts (z ∷ (zs ++ x ∷ [])) in subst P (sym (append_assoc fs bs us)) (gr.AreDecls.more f (decls_append r h))
 
-pub no_blocks : {src : List ℕ} {bs : List Block} {ts : List Token} → Encloses src bs ts → bs ≡ [] → ts ≡ []
-no_blocks top e = refl
-no_blocks (inside b u t) e = cc
+pub no_bodies : {src : List ℕ} {bs : List OpenBody} {ts : List Token} → Encloses src bs ts → bs ≡ [] → ts ≡ []
+no_bodies top e = refl
+no_bodies (inside b u t) e = cc
 
 pub no_body : {src : List ℕ} {xs : List Stmt} {ts : List Token} → IsBody src ts xs → xs ≡ [] → ts ≡ []
 no_body gr.IsBody.none e = refl
@@ -143,7 +143,7 @@ omitted_else {src} {n} {vs} {us} {c} {ys} i x b =
 
 module _ (src : List ℕ) (st : State) (a : Around src st) where
   -- the mode alone changes
-  moves : {mode : Mode} {last : List Token} (ts : List Token) → ts ≡ all a last → Half src st.blocks st.body mode last → Holds src ts (in_mode st mode)
+  moves : {mode : Mode} {last : List Token} (ts : List Token) → ts ≡ all a last → Half src st.bodies st.body mode last → Holds src ts (in_mode st mode)
   moves {mode} {last} ts e h = record {
     declaring = a.declaring;
     enclosing = a.enclosing;
@@ -151,7 +151,7 @@ module _ (src : List ℕ) (st : State) (a : Around src st) where
     last = last;
     split = e;
     decls = a.decls;
-    blocks = a.blocks;
+    bodies = a.bodies;
     body = a.body;
     mode = h;
   }
@@ -166,7 +166,7 @@ module _ (src : List ℕ) (st : State) (a : Around src st) where
     last = [];
     split = e ∙ simp (append_assoc, append-nil);
     decls = a.decls;
-    blocks = a.blocks;
+    bodies = a.bodies;
     body = body_append a.body h;
     mode = items;
   }
@@ -182,7 +182,7 @@ module _ (src : List ℕ) (st : State) (a : Around src st) where
 
   -- a body begins
   opens : {head : Head} {last : List Token} (ts : List Token) → ts ≡ all a last → Headed src head last →
-      Holds src ts (record st { blocks = record { before = st.body; head = head } ∷ st.blocks; body = []; mode = m.Item })
+      Holds src ts (record st { bodies = record { before = st.body; head = head } ∷ st.bodies; body = []; mode = m.Item })
   opens {head} {last} ts e h = record {
     declaring = a.declaring;
     enclosing = a.enclosing ++ (a.done ++ last);
@@ -190,7 +190,7 @@ module _ (src : List ℕ) (st : State) (a : Around src st) where
     last = [];
     split = e ∙ simp (append_assoc, append-nil);
     decls = a.decls;
-    blocks = inside a.blocks a.body h;
+    bodies = inside a.bodies a.body h;
     body = gr.IsBody.none;
     mode = items;
   }
@@ -244,10 +244,10 @@ module _ (src : List ℕ) (st : State) (a : Around src st) where
   name_keeps i t (Sym y.LBracket) h = moves _ (simp append_assoc) (awaits (set_index i h) nothing)
   name_keeps i t _ h = tt
 
-  declares : {x : Decl} {last : List Token} (ts : List Token) → ts ≡ all a last → Fresh st.blocks st.body → IsDecl src last x →
+  declares : {x : Decl} {last : List Token} (ts : List Token) → ts ≡ all a last → Fresh st.bodies st.body → IsDecl src last x →
       Holds src ts (record st { decls = st.decls ++ x ∷ []; mode = m.Item })
   declares {last = last} ts e fresh h =
-      let none_open : a.enclosing ≡ [] = no_blocks a.blocks fresh.no_block in
+      let none_open : a.enclosing ≡ [] = no_bodies a.bodies fresh.no_body in
       let none_done : a.done ≡ [] = no_body a.body fresh.no_stmt in
       record {
         declaring = a.declaring ++ last;
@@ -256,12 +256,12 @@ module _ (src : List ℕ) (st : State) (a : Around src st) where
         last = [];
         split = e ∙ ap (λ z. a.declaring ++ (z ++ (a.done ++ last))) none_open ∙ ap (λ z. a.declaring ++ (z ++ last)) none_done ∙ sym (append_assoc a.declaring last (a.enclosing ++ (a.done ++ [])) ∙ ap (λ z. a.declaring ++ (last ++ (z ++ (a.done ++ [])))) none_open ∙ ap (λ z. a.declaring ++ (last ++ (z ++ []))) none_done ∙ ap (λ z. a.declaring ++ z) (append-nil last));
         decls = decls_append a.decls h;
-        blocks = a.blocks;
+        bodies = a.bodies;
         body = a.body;
         mode = items;
       }
 
-  fixed_keeps : {mode : Mode} {last : List Token} → Half src st.blocks st.body mode last → (t : Token) (k : TokenKind) → Is t k →
+  fixed_keeps : {mode : Mode} {last : List Token} → Half src st.bodies st.body mode last → (t : Token) (k : TokenKind) → Is t k →
       Keeps src (all a last ++ t ∷ []) (apply st (fixed_at src mode t k))
   fixed_keeps (var f i) t Name h = moves _ (simp append_assoc) (var_name f i h)
   fixed_keeps (var_name f i j) t (Sym y.Semi) h = declares _ (simp append_assoc) f (gr.IsDecl.plain i j h)
@@ -279,9 +279,9 @@ module _ (src : List ℕ) (st : State) (a : Around src st) where
   fixed_keeps _ t _ h = tt
 
   -- a statement whose last part is a body
-  ends_body : {bs : List Block} {ts us last : List Token} {past : List Stmt} {x : Stmt} (all_of : List Token) →
+  ends_body : {bs : List OpenBody} {ts us last : List Token} {past : List Stmt} {x : Stmt} (all_of : List Token) →
       all_of ≡ a.declaring ++ (ts ++ (us ++ last)) → Encloses src bs ts → IsBody src us past → IsStmt src last x →
-      Holds src all_of (record st { blocks = bs; body = past ++ x ∷ []; mode = m.Item })
+      Holds src all_of (record st { bodies = bs; body = past ++ x ∷ []; mode = m.Item })
   ends_body {bs} {ts} {us} {last} all_of e around past h = record {
     declaring = a.declaring;
     enclosing = ts;
@@ -289,12 +289,12 @@ module _ (src : List ℕ) (st : State) (a : Around src st) where
     last = [];
     split = e ∙ simp (append_assoc, append-nil);
     decls = a.decls;
-    blocks = around;
+    bodies = around;
     body = body_append past h;
     mode = items;
   }
 
-  closed_by_keeps : {bs : List Block} {ts us hs : List Token} {past : List Stmt} {head : Head} → Encloses src bs ts → IsBody src us past → Headed src head hs →
+  closed_by_keeps : {bs : List OpenBody} {ts us hs : List Token} {past : List Stmt} {head : Head} → Encloses src bs ts → IsBody src us past → Headed src head hs →
       ts ++ (us ++ hs) ≡ a.enclosing → (t : Token) → Is t (Sym y.RBrace) → Holds src (all a [] ++ t ∷ []) (closed_by st bs past head)
   closed_by_keeps {ts = ts} {us = us} around past (of_while {t = n} {o = o} {vs = vs} i c j) e t h =
       ends_body {ts = ts} {us = us} {last = n ∷ (vs ++ (o ∷ (a.done ++ t ∷ [])))} _
@@ -306,7 +306,7 @@ module _ (src : List ℕ) (st : State) (a : Around src st) where
     last = n ∷ (vs ++ (o ∷ (a.done ++ t ∷ [])));
     split = ap (λ z. (a.declaring ++ (z ++ (a.done ++ []))) ++ t ∷ []) (sym e) ∙ simp (append_assoc, append-nil);
     decls = a.decls;
-    blocks = around;
+    bodies = around;
     body = past;
     mode = chosen i c (gr.IsBlock.braces j a.body h);
   }
@@ -315,24 +315,24 @@ module _ (src : List ℕ) (st : State) (a : Around src st) where
       (ap (λ z. (a.declaring ++ (z ++ (a.done ++ []))) ++ t ∷ []) (sym e) ∙ simp (append_assoc, append-nil)) around past
       (gr.IsStmt.choose i c b (gr.IsElse.otherwise k (gr.IsBlock.braces j a.body h)))
 
-  close_keeps : {bs : List Block} {enclosing : List Token} → Encloses src bs enclosing → enclosing ≡ a.enclosing → (t : Token) → Is t (Sym y.RBrace) →
+  close_keeps : {bs : List OpenBody} {enclosing : List Token} → Encloses src bs enclosing → enclosing ≡ a.enclosing → (t : Token) → Is t (Sym y.RBrace) →
       Keeps src (all a [] ++ t ∷ []) (close st bs)
   close_keeps top e t h = tt
   close_keeps (inside around past head) e t h = closed_by_keeps around past head e t h
 
-  begin_keeps : {mode : Mode} (t : Token) → (Fresh st.blocks st.body → Half src st.blocks st.body mode (t ∷ [])) →
-      (bs : List Block) → st.blocks ≡ bs → (xs : List Stmt) → st.body ≡ xs → Keeps src (all a [] ++ t ∷ []) (begin st mode bs xs)
-  begin_keeps t h [] e [] f = moves _ (simp append_assoc) (h (record { no_block = e; no_stmt = f }))
+  begin_keeps : {mode : Mode} (t : Token) → (Fresh st.bodies st.body → Half src st.bodies st.body mode (t ∷ [])) →
+      (bs : List OpenBody) → st.bodies ≡ bs → (xs : List Stmt) → st.body ≡ xs → Keeps src (all a [] ++ t ∷ []) (begin st mode bs xs)
+  begin_keeps t h [] e [] f = moves _ (simp append_assoc) (h (record { no_body = e; no_stmt = f }))
   begin_keeps t h _ e _ f = tt
 
   pub item_keeps : (t : Token) (k : TokenKind) → Is t k → Keeps src (all a [] ++ t ∷ []) (apply st (item src t k))
-  item_keeps t (Word w.Var) h = begin_keeps t (λ f. var f h) st.blocks refl st.body refl
-  item_keeps t (Word w.Array) h = begin_keeps t (λ f. array_word f h) st.blocks refl st.body refl
+  item_keeps t (Word w.Var) h = begin_keeps t (λ f. var f h) st.bodies refl st.body refl
+  item_keeps t (Word w.Array) h = begin_keeps t (λ f. array_word f h) st.bodies refl st.body refl
   item_keeps t (Word w.Print) h = moves _ (simp append_assoc) (awaits (print h) nothing)
   item_keeps t (Word w.If) h = moves _ (simp append_assoc) (awaits (choose h) nothing)
   item_keeps t (Word w.While) h = moves _ (simp append_assoc) (awaits (repeat h) nothing)
   item_keeps t Name h = moves _ (simp append_assoc) (name h)
-  item_keeps t (Sym y.RBrace) h = close_keeps a.blocks refl t h
+  item_keeps t (Sym y.RBrace) h = close_keeps a.bodies refl t h
   item_keeps t _ h = tt
 
 module _ (src : List ℕ) (st : State) (a : Around src st) where
@@ -345,7 +345,7 @@ module _ (src : List ℕ) (st : State) (a : Around src st) where
         enclosing = a.enclosing;
         done = a.done ++ last;
         decls = a.decls;
-        blocks = a.blocks;
+        bodies = a.bodies;
         body = body_append a.body s;
       } in
       let P : List Token → Type 0 = λ z. Keeps src (z ++ t ∷ []) (apply st (after x (item src t k))) in
@@ -359,7 +359,7 @@ module _ (src : List ℕ) (st : State) (a : Around src st) where
   after_keeps {n = n} {vs = vs} {us = us} {c = c} {ys = ys} i x b t k h =
       complete_keeps (omitted_else i x b) t k h
 
-  pub step_keeps : {mode : Mode} {last : List Token} → Half src st.blocks st.body mode last → (t : Token) → Keeps src (all a last ++ t ∷ []) (apply st (act src mode t))
+  pub step_keeps : {mode : Mode} {last : List Token} → Half src st.bodies st.body mode last → (t : Token) → Keeps src (all a last ++ t ∷ []) (apply st (act src mode t))
   step_keeps items t = item_keeps src st a t t.kind (record { kind = refl })
   step_keeps (name n) t = name_keeps src st a n t t.kind (record { kind = refl })
   step_keeps (awaits b o) t = operand_keeps src st a b o t t.kind (record { kind = refl })

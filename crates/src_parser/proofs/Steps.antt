@@ -22,7 +22,7 @@ use Rattle.src_tree.specs.Grammar.{Is}
 use Rattle.src_parser.specs.declared.machine.Action.{Action}
 use Rattle.src_parser.specs.declared.machine.Action.TheVariants as a
 use Rattle.src_parser.specs.Machine.{step, run, run_from, reduce, named_at, value_at, operated, operand_at, closed, apply, act, begin, close, closed_by, behind, after, after_if, item}
-use Rattle.src_parser.specs.declared.machine.Block.{Block}
+use Rattle.src_parser.specs.declared.machine.OpenBody.{OpenBody}
 use Rattle.src_parser.specs.declared.machine.Head.{Head}
 use Rattle.src_parser.specs.declared.machine.Head.TheVariants as h
 use Rattle.src_tree.specs.declared.tree.Stmt.{Stmt}
@@ -114,17 +114,17 @@ IsItems (a.Begin mode) = Unit {0}
 IsItems a.Close = Unit {0}
 IsItems _ = ⊥
 
-begin_mode : (st : State) (mode next : Mode) (bs : List Block) (xs : List Stmt) → begin (in_mode st mode) next bs xs ≡ begin st next bs xs
+begin_mode : (st : State) (mode next : Mode) (bs : List OpenBody) (xs : List Stmt) → begin (in_mode st mode) next bs xs ≡ begin st next bs xs
 begin_mode st mode next [] [] = refl
 begin_mode st mode next _ _ = refl
 
-closed_mode : (st : State) (mode : Mode) (bs : List Block) (past : List Stmt) (head : Head) →
+closed_mode : (st : State) (mode : Mode) (bs : List OpenBody) (past : List Stmt) (head : Head) →
     closed_by (in_mode st mode) bs past head ≡ closed_by st bs past head
 closed_mode st mode bs past (h.While c) = refl
 closed_mode st mode bs past (h.If c) = refl
 closed_mode st mode bs past (h.Else c ys) = refl
 
-close_mode : (st : State) (mode : Mode) (bs : List Block) → close (in_mode st mode) bs ≡ close st bs
+close_mode : (st : State) (mode : Mode) (bs : List OpenBody) → close (in_mode st mode) bs ≡ close st bs
 close_mode st mode [] = refl
 close_mode st mode (b ∷ bs) = ap (λ (z : State). Some z) (closed_mode st mode bs b.before b.head)
 
@@ -132,17 +132,17 @@ close_mode st mode (b ∷ bs) = ap (λ (z : State). Some z) (closed_mode st mode
 pub apply_mode : (st : State) (mode : Mode) (x : Action) → apply (in_mode st mode) x ≡ apply st x
 apply_mode st mode a.Refuse = refl
 apply_mode st mode (a.Go next) = refl
-apply_mode st mode (a.Begin next) = begin_mode st mode next st.blocks st.body
+apply_mode st mode (a.Begin next) = begin_mode st mode next st.bodies st.body
 apply_mode st mode (a.Declare x) = refl
 apply_mode st mode (a.Finish x) = refl
 apply_mode st mode (a.Open x) = refl
-apply_mode st mode a.Close = close_mode st mode st.blocks
+apply_mode st mode a.Close = close_mode st mode st.bodies
 apply_mode st mode (a.FinishGo x next) = refl
 apply_mode st mode (a.FinishClose x) = refl
 
 -- ---- behind an `if` that may still get its `else`
 
-no_begin : (st : State) (x : Stmt) (mode : Mode) (bs : List Block) (xs : List Stmt) → None ≡ begin (behind st x) mode bs (xs ++ x ∷ [])
+no_begin : (st : State) (x : Stmt) (mode : Mode) (bs : List OpenBody) (xs : List Stmt) → None ≡ begin (behind st x) mode bs (xs ++ x ∷ [])
 no_begin st x mode [] [] = refl
 no_begin st x mode [] (z ∷ zs) = refl
 no_begin st x mode (b ∷ bs) xs = refl
@@ -151,7 +151,7 @@ no_begin st x mode (b ∷ bs) xs = refl
 pub after_apply : (st : State) (x : Stmt) (act : Action) → IsItems act → apply st (after x act) ≡ apply (behind st x) act
 after_apply st x a.Refuse h = refl
 after_apply st x (a.Go mode) h = refl
-after_apply st x (a.Begin mode) h = no_begin st x mode st.blocks st.body
+after_apply st x (a.Begin mode) h = no_begin st x mode st.bodies st.body
 after_apply st x a.Close h = refl
 after_apply st x _ h = absurd h
 

@@ -21,7 +21,7 @@ use Rattle.src_parser.specs.declared.machine.Part.{Part}
 use Rattle.src_parser.specs.declared.machine.Part.TheVariants as p
 use Rattle.src_parser.specs.declared.machine.Head.{Head}
 use Rattle.src_parser.specs.declared.machine.Head.TheVariants as hd
-use Rattle.src_parser.specs.declared.machine.Block.{Block}
+use Rattle.src_parser.specs.declared.machine.OpenBody.{OpenBody}
 use Rattle.src_parser.specs.declared.machine.Mode.{Mode}
 use Rattle.src_parser.specs.declared.machine.Mode.TheVariants as m
 use Rattle.src_parser.specs.declared.machine.State.{State}
@@ -31,20 +31,20 @@ use Rattle.src_tree.specs.Grammar.{ident, Is, IsStmt, IsBody, IsDecl, AreDecls, 
 use Rattle.src_parser.specs.Fault.{Begins}
 use Rattle.src_parser.specs.Machine.{step, run, run_from, start, reduce, operand_at, closed, name_at, item, fixed_at, closed_by, act, apply, after_if, whole, whole_in}
 use Rattle.src_parser.proofs.Complete.{complete_body, reduce_two, behind_all}
-use Rattle.src_parser.proofs.Holds.{Holds, Keeps, Around, Half, items, chosen, omitted_else, body_append, step_keeps, top, no_blocks}
+use Rattle.src_parser.proofs.Holds.{Holds, Keeps, Around, Half, items, chosen, omitted_else, body_append, step_keeps, top, no_bodies}
 use Rattle.src_parser.proofs.Steps.{in_mode, IsValue, value, named, Leads, Steps, append_from, run_append, run_then, run_one, run_none, step_closed, by_action, Rests, settled, open_if}
 
 -- the state behind these declarations, and behind this program
 abbrev pub declared : List Decl → State
-declared ds = record { decls = ds; blocks = []; body = []; mode = m.Item }
+declared ds = record { decls = ds; bodies = []; body = []; mode = m.Item }
 
 -- before an item nothing is half read
-none_left : {src : List ℕ} {bs : List Block} {xs : List Stmt} {mode : Mode} {ts : List Token} → Half src bs xs mode ts → mode ≡ m.Item → ts ≡ []
+none_left : {src : List ℕ} {bs : List OpenBody} {xs : List Stmt} {mode : Mode} {ts : List Token} → Half src bs xs mode ts → mode ≡ m.Item → ts ≡ []
 none_left items e = refl
 none_left _ e = cc
 
 -- behind the `}` of an `if` it is read
-if_left : {src : List ℕ} {bs : List Block} {xs : List Stmt} {mode : Mode} {ts : List Token} {c : Expr} {ys : List Stmt} →
+if_left : {src : List ℕ} {bs : List OpenBody} {xs : List Stmt} {mode : Mode} {ts : List Token} {c : Expr} {ys : List Stmt} →
     Half src bs xs mode ts → mode ≡ m.AfterIf c ys → IsStmt src ts (s.If c ys [])
 if_left {src} {ts = ts} {c = c} {ys = ys} (chosen {c = d} {ys = zs} i x b) e =
     let P : Expr → Type 0 = λ z. IsStmt src ts (s.If z ys []) in
@@ -94,10 +94,10 @@ module _ (src : List ℕ) where
   complete_decls (gr.AreDecls.more {ts = ts} {us = us} {x = x} {ds = xs} f r) ds =
       run_append (complete_decl f ds) (record { leads = (complete_decls r (ds ++ x ∷ [])).leads ∙ ap (λ (z : List Decl). Some (declared z)) (append_assoc ds (x ∷ []) xs) })
 
-  whole_rests : (st here : State) → Rests src st here → st.blocks ≡ [] → whole here ≡ Some (record { decls = st.decls; body = st.body })
+  whole_rests : (st here : State) → Rests src st here → st.bodies ≡ [] → whole here ≡ Some (record { decls = st.decls; body = st.body })
   whole_rests st here settled e = ap (whole_in (in_mode st m.Item) m.Item) e
   whole_rests st here (open_if before c ys f) e =
-      let none_open : before.blocks ≡ [] = ap (λ (z : State). z.blocks) (sym f) ∙ e in
+      let none_open : before.bodies ≡ [] = ap (λ (z : State). z.bodies) (sym f) ∙ e in
       ap (whole_in (in_mode before (m.AfterIf c ys)) (m.AfterIf c ys)) none_open
       ∙ ap (λ (z : State). Some (record { decls = z.decls; body = z.body })) (sym f)
 
@@ -119,7 +119,7 @@ module _ (src : List ℕ) where
 
   step_holds : {st : State} (pre : List Token) → Holds src pre st → (t : Token) → Keeps src (pre ++ t ∷ []) (step src st t)
   step_holds {st} pre h t =
-      let a : Around src st = record { declaring = h.declaring; enclosing = h.enclosing; done = h.done; decls = h.decls; blocks = h.blocks; body = h.body } in
+      let a : Around src st = record { declaring = h.declaring; enclosing = h.enclosing; done = h.done; decls = h.decls; bodies = h.bodies; body = h.body } in
       let P : List Token → Type 0 = λ z. Keeps src (z ++ t ∷ []) (step src st t) in
       subst P (sym h.split) (step_keeps src st a h.mode t)
 
@@ -132,9 +132,9 @@ module _ (src : List ℕ) where
       subst P (append_assoc pre (t ∷ []) ts) (holds_run (step src st t) (pre ++ t ∷ []) (step_holds pre h t) ts)
 
   pub holds : (ts : List Token) → Keeps src ts (run src start ts)
-  holds ts = holds_run (Some start) [] (record { declaring = []; enclosing = []; done = []; last = []; split = refl; decls = gr.AreDecls.none; blocks = top; body = gr.IsBody.none; mode = items }) ts
+  holds ts = holds_run (Some start) [] (record { declaring = []; enclosing = []; done = []; last = []; split = refl; decls = gr.AreDecls.none; bodies = top; body = gr.IsBody.none; mode = items }) ts
 
-  program_in : {st : State} {ts : List Token} {p : Program} → Holds src ts st → (mode : Mode) → st.mode ≡ mode → (bs : List Block) → st.blocks ≡ bs →
+  program_in : {st : State} {ts : List Token} {p : Program} → Holds src ts st → (mode : Mode) → st.mode ≡ mode → (bs : List OpenBody) → st.bodies ≡ bs →
       whole_in st mode bs ≡ Some p → Derives src ts p
   program_in h mode e (b ∷ bs) f w = cc
   program_in {st} {ts} {p} h m.Item e [] f w =
@@ -143,7 +143,7 @@ module _ (src : List ℕ) where
       subst P same (record {
         front = h.declaring;
         back = h.done;
-        split = h.split ∙ ap (λ z. h.declaring ++ (z ++ (h.done ++ h.last))) (no_blocks h.blocks f)
+        split = h.split ∙ ap (λ z. h.declaring ++ (z ++ (h.done ++ h.last))) (no_bodies h.bodies f)
             ∙ ap (λ z. h.declaring ++ (h.done ++ z)) (none_left h.mode e) ∙ ap (λ z. h.declaring ++ z) (append-nil h.done);
         decls = h.decls;
         body = h.body;
@@ -154,7 +154,7 @@ module _ (src : List ℕ) where
       subst P same (record {
         front = h.declaring;
         back = h.done ++ h.last;
-        split = h.split ∙ ap (λ z. h.declaring ++ (z ++ (h.done ++ h.last))) (no_blocks h.blocks f);
+        split = h.split ∙ ap (λ z. h.declaring ++ (z ++ (h.done ++ h.last))) (no_bodies h.bodies f);
         decls = h.decls;
         body = body_append h.body (if_left h.mode e);
       })
@@ -162,7 +162,7 @@ module _ (src : List ℕ) where
 
   -- what is read, the grammar derives
   pub read_derives : {st : State} {ts : List Token} {p : Program} → Holds src ts st → whole st ≡ Some p → Derives src ts p
-  read_derives {st} h w = program_in h st.mode refl st.blocks refl w
+  read_derives {st} h w = program_in h st.mode refl st.bodies refl w
 
   -- ---- some program goes on
 
@@ -182,33 +182,33 @@ module _ (src : List ℕ) where
   pub is_kind : (k : TokenKind) → Is (of_kind k) k
   is_kind k = record { kind = refl }
 
-  abbrev pub before_item : List Decl → List Block → List Stmt → State
-  before_item ds bs xs = record { decls = ds; blocks = bs; body = xs; mode = m.Item }
+  abbrev pub before_item : List Decl → List OpenBody → List Stmt → State
+  before_item ds bs xs = record { decls = ds; bodies = bs; body = xs; mode = m.Item }
 
-  abbrev pub behind_if : List Decl → List Block → List Stmt → Expr → List Stmt → State
-  behind_if ds bs past c ys = record { decls = ds; blocks = bs; body = past; mode = m.AfterIf c ys }
+  abbrev pub behind_if : List Decl → List OpenBody → List Stmt → Expr → List Stmt → State
+  behind_if ds bs past c ys = record { decls = ds; bodies = bs; body = past; mode = m.AfterIf c ys }
 
-  closed_end : (st : State) (bs : List Block) (past : List Stmt) (head : Head) → ((xs : List Stmt) → Ends (before_item st.decls bs xs)) →
+  closed_end : (st : State) (bs : List OpenBody) (past : List Stmt) (head : Head) → ((xs : List Stmt) → Ends (before_item st.decls bs xs)) →
       ((past : List Stmt) (c : Expr) (ys : List Stmt) → Ends (behind_if st.decls bs past c ys)) → Ends (closed_by st bs past head)
   closed_end st bs past (hd.While c) f k = f (past ++ s.While c st.body ∷ [])
   closed_end st bs past (hd.If c) f k = k past c st.body
   closed_end st bs past (hd.Else c ys) f k = f (past ++ s.If c ys st.body ∷ [])
 
   mutual
-    blocks_end : (ds : List Decl) (bs : List Block) (xs : List Stmt) → Ends (before_item ds bs xs)
-    blocks_end ds [] xs = record { tokens = []; last = _; program = _; leads = run_none; whole = refl }
-    blocks_end ds (b ∷ bs) xs = ends_then {ts = of_kind (Sym y.RBrace) ∷ []}
+    bodies_end : (ds : List Decl) (bs : List OpenBody) (xs : List Stmt) → Ends (before_item ds bs xs)
+    bodies_end ds [] xs = record { tokens = []; last = _; program = _; leads = run_none; whole = refl }
+    bodies_end ds (b ∷ bs) xs = ends_then {ts = of_kind (Sym y.RBrace) ∷ []}
         (run_one (by_action src (before_item ds (b ∷ bs) xs) m.Item (of_kind (Sym y.RBrace)) _ (ap (item src (of_kind (Sym y.RBrace))) (is_kind (Sym y.RBrace)).kind) refl))
-        (closed_end (before_item ds (b ∷ bs) xs) bs b.before b.head (blocks_end ds bs) (ifs_end ds bs))
+        (closed_end (before_item ds (b ∷ bs) xs) bs b.before b.head (bodies_end ds bs) (ifs_end ds bs))
 
-    ifs_end : (ds : List Decl) (bs : List Block) (past : List Stmt) (c : Expr) (ys : List Stmt) → Ends (behind_if ds bs past c ys)
+    ifs_end : (ds : List Decl) (bs : List OpenBody) (past : List Stmt) (c : Expr) (ys : List Stmt) → Ends (behind_if ds bs past c ys)
     ifs_end ds [] past c ys = record { tokens = []; last = _; program = _; leads = run_none; whole = refl }
     ifs_end ds (b ∷ bs) past c ys = ends_then {ts = of_kind (Sym y.RBrace) ∷ []}
         (run_one (by_action src (behind_if ds (b ∷ bs) past c ys) (m.AfterIf c ys) (of_kind (Sym y.RBrace)) _ (ap (after_if src c ys (of_kind (Sym y.RBrace))) (is_kind (Sym y.RBrace)).kind) refl))
-        (closed_end (before_item ds (b ∷ bs) (past ++ s.If c ys [] ∷ [])) bs b.before b.head (blocks_end ds bs) (ifs_end ds bs))
+        (closed_end (before_item ds (b ∷ bs) (past ++ s.If c ys [] ∷ [])) bs b.before b.head (bodies_end ds bs) (ifs_end ds bs))
 
   item_ends : (st : State) → Ends (in_mode st m.Item)
-  item_ends st = blocks_end st.decls st.blocks st.body
+  item_ends st = bodies_end st.decls st.bodies st.body
 
   closes_with : (st : State) (goal : Goal) (ps qs : List Part) (v x : Expr) (mode : Mode) (k : Symbol) (next : State) → IsValue goal ps v mode →
       (k ≡ y.LBracket → ⊥) → binary k ≡ None → reduce 0 ps v ≡ (qs, x) → apply (in_mode st mode) (closed goal (qs, x) k) ≡ Some next →
@@ -232,9 +232,9 @@ module _ (src : List ℕ) where
   goal_ends st (g.SetValue n i) ps v x mode h r = closes_with st (g.SetValue n i) ps [] v x mode y.Semi _ h (λ e. cc) refl r refl (item_ends (record st { body = st.body ++ s.SetElement n i x ∷ [] }))
   goal_ends st g.Print ps v x mode h r = closes_with st g.Print ps [] v x mode y.Semi _ h (λ e. cc) refl r refl (item_ends (record st { body = st.body ++ s.Print x ∷ [] }))
   goal_ends st g.If ps v x mode h r = closes_with st g.If ps [] v x mode y.LBrace _ h (λ e. cc) refl r refl
-      (item_ends (record st { blocks = record { before = st.body; head = hd.If x } ∷ st.blocks; body = [] }))
+      (item_ends (record st { bodies = record { before = st.body; head = hd.If x } ∷ st.bodies; body = [] }))
   goal_ends st g.While ps v x mode h r = closes_with st g.While ps [] v x mode y.LBrace _ h (λ e. cc) refl r refl
-      (item_ends (record st { blocks = record { before = st.body; head = hd.While x } ∷ st.blocks; body = [] }))
+      (item_ends (record st { bodies = record { before = st.body; head = hd.While x } ∷ st.bodies; body = [] }))
 
   parts_end : (st : State) (goal : Goal) (ps : List Part) (x : Expr) (qs : List Part) (v : Expr) (mode : Mode) →
       IsValue goal qs v mode → reduce 0 qs v ≡ reduce 0 ps x → Ends (in_mode st mode)
@@ -287,9 +287,9 @@ module _ (src : List ℕ) where
   ends st (m.ArrayOpen n) = array_open_ends st n
   ends st (m.ArrayLen n v) = array_len_ends st n v
   ends st (m.Declared x) = declared_ends st x
-  ends st (m.AfterIf c ys) = ifs_end st.decls st.blocks st.body c ys
+  ends st (m.AfterIf c ys) = ifs_end st.decls st.bodies st.body c ys
   ends st (m.Else c ys) = fixed_ends st (m.Else c ys) (Sym y.LBrace) _ (λ k t. refl) refl
-      (item_ends (record st { blocks = record { before = st.body; head = hd.Else c ys } ∷ st.blocks; body = [] }))
+      (item_ends (record st { bodies = record { before = st.body; head = hd.Else c ys } ∷ st.bodies; body = [] }))
 
   -- where the machine goes on, some program does
   pub goes_on : (st : State) (ts : List Token) → run src start ts ≡ Some st → Begins src ts

@@ -24,7 +24,7 @@ use Rattle.src_parser.specs.declared.machine.Part.{Part}
 use Rattle.src_parser.specs.declared.machine.Part.TheVariants as p
 use Rattle.src_parser.specs.declared.machine.Head.{Head}
 use Rattle.src_parser.specs.declared.machine.Head.TheVariants as h
-use Rattle.src_parser.specs.declared.machine.Block.{Block}
+use Rattle.src_parser.specs.declared.machine.OpenBody.{OpenBody}
 use Rattle.src_parser.specs.declared.machine.Mode.{Mode}
 use Rattle.src_parser.specs.declared.machine.Mode.TheVariants as m
 use Rattle.src_parser.specs.declared.machine.Action.{Action}
@@ -43,7 +43,7 @@ reduce l (p.Index n ∷ ps) x = (p.Index n ∷ ps, x)
 
 -- the state before the first token
 abbrev pub start : State
-start = record { decls = []; blocks = []; body = []; mode = m.Item }
+start = record { decls = []; bodies = []; body = []; mode = m.Item }
 
 -- the program that is whole here, if any: no body is open, and no part of an item
 abbrev pub last_in : List Decl → List Stmt → Mode → Option Program
@@ -51,12 +51,12 @@ last_in ds xs m.Item = Some (record { decls = ds; body = xs })
 last_in ds xs (m.AfterIf c ys) = Some (record { decls = ds; body = xs ++ s.If c ys [] ∷ [] })
 last_in ds xs _ = None
 
-abbrev pub whole_in : State → Mode → List Block → Option Program
+abbrev pub whole_in : State → Mode → List OpenBody → Option Program
 whole_in st mode [] = last_in st.decls st.body mode
 whole_in st mode (b ∷ bs) = None
 
 abbrev pub whole : State → Option Program
-whole st = whole_in st st.mode st.blocks
+whole st = whole_in st st.mode st.bodies
 
 abbrev pub with_mode : State → Mode → Option State
 with_mode st mode = Some (record st { mode = mode })
@@ -67,15 +67,15 @@ closed_body past (h.While c) body = (past ++ s.While c body ∷ [], m.Item)
 closed_body past (h.If c) body = (past, m.AfterIf c body)
 closed_body past (h.Else c ys) body = (past ++ s.If c ys body ∷ [], m.Item)
 
-abbrev pub closed_by : State → List Block → List Stmt → Head → State
-closed_by st bs past head = record st { blocks = bs; body = (closed_body past head st.body).0; mode = (closed_body past head st.body).1 }
+abbrev pub closed_by : State → List OpenBody → List Stmt → Head → State
+closed_by st bs past head = record st { bodies = bs; body = (closed_body past head st.body).0; mode = (closed_body past head st.body).1 }
 
-abbrev pub close : State → List Block → Option State
+abbrev pub close : State → List OpenBody → Option State
 close st [] = None
 close st (b ∷ bs) = Some (closed_by st bs b.before b.head)
 
 -- a declaration stands before the first statement alone
-abbrev pub begin : State → Mode → List Block → List Stmt → Option State
+abbrev pub begin : State → Mode → List OpenBody → List Stmt → Option State
 begin st mode [] [] = with_mode st mode
 begin st mode _ _ = None
 
@@ -87,13 +87,13 @@ behind st x = record st { body = st.body ++ x ∷ []; mode = m.Item }
 abbrev pub apply : State → Action → Option State
 apply st a.Refuse = None
 apply st (a.Go mode) = with_mode st mode
-apply st (a.Begin mode) = begin st mode st.blocks st.body
+apply st (a.Begin mode) = begin st mode st.bodies st.body
 apply st (a.Declare x) = Some (record st { decls = st.decls ++ x ∷ []; mode = m.Item })
 apply st (a.Finish x) = Some (behind st x)
-apply st (a.Open head) = Some (record st { blocks = record { before = st.body; head = head } ∷ st.blocks; body = []; mode = m.Item })
-apply st a.Close = close st st.blocks
+apply st (a.Open head) = Some (record st { bodies = record { before = st.body; head = head } ∷ st.bodies; body = []; mode = m.Item })
+apply st a.Close = close st st.bodies
 apply st (a.FinishGo x mode) = with_mode (behind st x) mode
-apply st (a.FinishClose x) = close (behind st x) st.blocks
+apply st (a.FinishClose x) = close (behind st x) st.bodies
 
 abbrev pub finished : Stmt → Symbol → Action
 finished x y.Semi = a.Finish x

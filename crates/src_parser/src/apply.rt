@@ -3,7 +3,7 @@
 ghost use Rattle.std.specs.Prelude.{◌≡◌, ◌∷◌, ◌++◌, [], Some, None, IfOk, OnOk, if◌then◌else◌};
 ghost use Rattle.src_parser.specs.Machine as spec;
 
-use crate::machine::{Action, Block, Head, Mode, State};
+use crate::machine::{Action, Head, Mode, OpenBody, State};
 use sqlite_items::Items;
 use src_tree::{Decl, Stmt};
 use std::alloc::{AllocError, Global};
@@ -11,10 +11,10 @@ use std::mem;
 
 /// A body is complete: the statements before it with its own, and what stands before the next
 /// token.
-fn closed_body(block: Block, body: Items<Stmt>) -> Result<(Items<Stmt>, Mode), AllocError>
-    ensures { IfOk result (λ r. (r.0, r.1) ≡ spec.closed_body block.before block.head body) }
+fn closed_body(open: OpenBody, body: Items<Stmt>) -> Result<(Items<Stmt>, Mode), AllocError>
+    ensures { IfOk result (λ r. (r.0, r.1) ≡ spec.closed_body open.before open.head body) }
 {
-    let Block { mut before, head } = block;
+    let OpenBody { mut before, head } = open;
     match head {
         Head::While { cond } => {
             before.push(Stmt::While { cond, body })?;
@@ -33,13 +33,13 @@ fn closed_body(block: Block, body: Items<Stmt>) -> Result<(Items<Stmt>, Mode), A
 }
 
 fn close(alloc: Global, state: &mut State) -> Result<bool, AllocError>
-    ensures { IfOk result (λ went. spec.close state.old state.old.blocks ≡ (if went then Some state.new else None)) }
+    ensures { IfOk result (λ went. spec.close state.old state.old.bodies ≡ (if went then Some state.new else None)) }
 {
-    match state.blocks.pop() {
+    match state.bodies.pop() {
         None => Ok(false),
-        Some(block) => {
+        Some(open) => {
             let body = mem::replace(&mut state.body, Items::new(alloc));
-            let (body, mode) = closed_body(block, body)?;
+            let (body, mode) = closed_body(open, body)?;
             state.body = body;
             state.mode = mode;
             Ok(true)
@@ -48,9 +48,9 @@ fn close(alloc: Global, state: &mut State) -> Result<bool, AllocError>
 }
 
 fn begin(state: &mut State, mode: Mode) -> bool
-    ensures { spec.begin state.old mode state.old.blocks state.old.body ≡ (if result then Some state.new else None) }
+    ensures { spec.begin state.old mode state.old.bodies state.old.body ≡ (if result then Some state.new else None) }
 {
-    if state.blocks.is_empty() && state.body.is_empty() {
+    if state.bodies.is_empty() && state.body.is_empty() {
         state.mode = mode;
         true
     } else {
@@ -84,7 +84,7 @@ fn open_body(alloc: Global, state: &mut State, head: Head) -> Result<(), AllocEr
     ensures { OnOk result (Some state.new ≡ spec.apply state.old (Action.Open head)) }
 {
     let before = mem::replace(&mut state.body, Items::new(alloc));
-    state.blocks.push(Block { before, head })?;
+    state.bodies.push(OpenBody { before, head })?;
     state.mode = Mode::Item;
     Ok(())
 }

@@ -35,7 +35,7 @@ pub enum Head {
 
 /// An open body's head, and the statements before it.
 #[derive(Drop)]
-pub struct Block {
+pub struct OpenBody {
     pub before: Items<Stmt>,
     pub head: Head,
 }
@@ -131,7 +131,7 @@ pub enum Action {
 pub struct State {
     pub decls: Items<Decl>,
     /// The innermost first.
-    pub blocks: Stack<Block>,
+    pub bodies: Stack<OpenBody>,
     /// The statements of the innermost body.
     pub body: Items<Stmt>,
     pub mode: Mode,

@@ -112,7 +112,7 @@ fn start(alloc: Global) -> State
 {
     State {
         decls: Items::new(alloc),
-        blocks: Stack::new(alloc),
+        bodies: Stack::new(alloc),
         body: Items::new(alloc),
         mode: Mode::Item,
     }
@@ -146,11 +146,11 @@ fn finish(alloc: Global, state: State, fault: ParseFault) -> Result<Program, Par
 {
     let State {
         decls,
-        blocks,
+        bodies,
         body,
         mode,
     } = state;
-    if blocks.is_empty() {
+    if bodies.is_empty() {
         last(alloc, decls, body, mode, fault)
     } else {
         Err(fault)
@@ -179,6 +179,7 @@ pub fn parse(alloc: Global, src: &[u8], tokens: &[Token]) -> Result<Program, Par
     ensures only_fault { (e : ParseFault) → Faults src.now tokens.now e
         → MatchResult result (λ _. ⊥) (λ x. (x ≡ e) ⊎ (x ≡ ParseFault.Memory)) }
 {
+    // Only for its contract.
     spelled_tokens_are_in_order();
     let mut state = start(alloc);
     read(alloc, src, tokens, &mut state)?;

@@ -133,10 +133,8 @@ fn place(class: Class) -> usize
 fn alone(taken: Result<(), StepFault>) -> Result<Option<BlockDraft>, StepFault>
     ensures { result ≡ alone taken }
 {
-    match taken {
-        Ok(()) => Ok(None),
-        Err(fault) => Err(fault),
-    }
+    taken?;
+    Ok(None)
 }
 
 fn fits_processors(version: u8, count: u8) -> bool
@@ -311,16 +309,12 @@ impl Draft {
         if matches!(self.stage, Stage::Tuples | Stage::Masks | Stage::Streams)
             && self.from <= u16::from(processor)
         {
-            match items(alloc, text) {
-                Ok(items) => {
-                    self.stage = Stage::Streams;
-                    self.from = u16::from(processor) + 1;
-                    match self.streams.push(Stream { processor, items }) {
-                        Ok(()) => Ok(()),
-                        Err(_) => Err(StepFault::Memory),
-                    }
-                }
-                Err(fault) => Err(fault),
+            let items = items(alloc, text)?;
+            self.stage = Stage::Streams;
+            self.from = u16::from(processor) + 1;
+            match self.streams.push(Stream { processor, items }) {
+                Ok(()) => Ok(()),
+                Err(_) => Err(StepFault::Memory),
             }
         } else {
             Err(StepFault::Refused)
@@ -376,10 +370,7 @@ impl Draft {
             Line::Does { tuple } => alone(self.take_tuple(tuple)),
             Line::Masks { mask } => alone(self.take_mask(Mask::of_number(mask))),
             Line::Streams { processor, items } => alone(self.take_stream(alloc, processor, items)),
-            Line::Follows { next } => match self.take_next(alloc, next) {
-                Ok(block) => Ok(Some(block)),
-                Err(fault) => Err(fault),
-            },
+            Line::Follows { next } => Ok(Some(self.take_next(alloc, next)?)),
             Line::Ends => alone(self.take_end()),
         }
     }

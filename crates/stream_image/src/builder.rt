@@ -76,6 +76,7 @@ impl ImageBuilder {
         ensures err { OnErr result (self.new ≡ self.old) }
         ensures refused { IfErr result (λ f. (f ≡ fault.Memory) ⊎ IsRefused self.old block streams.now masks.now f) }
     {
+        // Only for its contract.
         streams_are_bytes(streams);
         let number = self.held.len() as u32;
         let n = self.spec.processors();
@@ -110,6 +111,7 @@ impl ImageBuilder {
         ensures ok { OnOk result (self.new ≡ with_streams self.old block.now streams.now masks.now) }
         ensures err { OnErr result (self.new ≡ self.old) }
     {
+        // Only for their contracts.
         streams_are_bytes(streams);
         let _processors = self.spec.processors();
         self.held.push(block, streams, masks)
@@ -142,6 +144,7 @@ impl ImageBuilder {
         ensures lawful { IfOk result IsImage }
         ensures determinate { IfOk result IsDeterminate }
     {
+        // Only for their contracts.
         machine_is_lawful(&self.spec);
         let _names = self.names.len();
         if let Some(fault) = target_fault(&self.held) {

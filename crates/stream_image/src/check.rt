@@ -46,10 +46,7 @@ fn see_all(seen: &mut [bool; NUMBERS], streams: &[Stream]) -> Result<(), u8>
     ensures err { IfErr result (λ t. spec.seeing_all seen.old streams.now ≡ Err t) }
 {
     for stream in streams {
-        match see(seen, stream.items.items()) {
-            Ok(()) => {}
-            Err(tuple) => return Err(tuple),
-        }
+        see(seen, stream.items.items())?;
     }
     Ok(())
 }

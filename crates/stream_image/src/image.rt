@@ -56,6 +56,7 @@ impl Image {
         ensures lawful { IsImage self.now }
         ensures determinate { IsDeterminate self.now }
     {
+        // Only for their contracts.
         machine_is_lawful(&self.spec);
         let _names = self.names.len();
         self.held.len() as u32

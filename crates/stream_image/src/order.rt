@@ -110,6 +110,7 @@ fn pair_fault(
     requires deps { AreDepsOf deps.now block.now.tuples }
     ensures { IfOk result (TellsOrder spec.now block.now line.now.items number) }
 {
+    // Only for its contract.
     let _processors = spec.processors();
     let bounds = Bounds::of(alloc, line, block, spec)?;
     let tuples = block.tuples.items();
@@ -144,6 +145,7 @@ pub(crate) fn order_fault(
     requires lined { AreLined (length block.now.tuples) spec.now.processors streams.now masks.now }
     ensures { IfOk result (TellsOrder spec.now block.now (line_on spec.now.processors streams.now masks.now) number) }
 {
+    // Only for its contract.
     machine_is_lawful(spec);
     let deps = conflicts(alloc, block)?;
     if all_ordered(alloc, block, &deps, streams, masks, spec)? {

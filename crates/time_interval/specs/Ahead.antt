@@ -2,6 +2,7 @@
 use Rattle.std.specs.Prelude.{◌≡◌, ℕ, ◌+◌, ◌*◌, ◌<◌, ◌≤◌, ◌⊎◌, ◌||◌, Bool, true, false, nat_eq, List, [], All, Option, Some, is_some}
 use Rattle.std.specs.Prelude.{length, take, get_or, slice_index_or}
 use Rattle.std.specs.List.{list_any}
+use Rattle.bm_base.specs.declared.limits.TheConstants.{MOST_TICKS, MOST_DELAY}
 use Rattle.bm_base.specs.Mask.{has_bit}
 use Rattle.line_model.specs.declared.line.Item.{Item}
 use Rattle.line_model.specs.declared.line.Item.TheVariants.{Run, Bar}
@@ -32,7 +33,7 @@ pub record IsAhead (pace : Pace) (items : List Item) (front : Front) : Type 0 wh
   pub lows : (j : ℕ) → j < length (masks items) → by_processor front.lows j ≡ lo_of pace items since.Start (FireOf j)
   pub since : (g r : ℕ) → list_any (nat_eq g) (tuples items) ≡ true →
       has_bit (set_at front.since g) r ≡ is_some (up_of pace items (since.Bar r) (FinishOf g))
-  pub small : IsUpTo (1000 + 1100 * length items) (known_of front.walk)
+  pub small : IsUpTo (MOST_TICKS + (MOST_TICKS + MOST_DELAY) * length items) (known_of front.walk)
 
 -- the item is none of the tuples
 abbrev pub IsNew : List Item → Item → Type 0

@@ -11,14 +11,14 @@ ghost use Rattle.time_interval.specs.Walks.{known_of};
 use crate::reference::Reference;
 use crate::timing::Timing;
 use crate::walk::Walk;
-use bm_base::{MOST_MASKS, Mask};
+use bm_base::{MOST_MASKS, MOST_TICKS, Mask};
 use line_model::Item;
 
 /// Walks along items.
 fn along(timing: &Timing, walk: &mut Walk, items: &[Item])
     requires items { All (IsItem (length timing.now.times) timing.now.processors) items.now }
     requires few { length items.now ≤ 1000000 }
-    requires small { IsUpTo 1000 (known_of walk.old) }
+    requires small { IsUpTo MOST_TICKS (known_of walk.old) }
     ensures value { known_of walk.new ≡ along timing.now (known_of walk.old) items.now }
     ensures small { IsUpTo 2000000000 (known_of walk.new) }
 {

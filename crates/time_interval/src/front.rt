@@ -23,7 +23,7 @@ use crate::least::least_since;
 use crate::seen::{Sets, has};
 use crate::timing::Timing;
 use crate::walk::Walk;
-use bm_base::{MOST_MASKS, MOST_PROCESSORS, MOST_TUPLES, Mask};
+use bm_base::{MOST_DELAY, MOST_MASKS, MOST_PROCESSORS, MOST_TICKS, MOST_TUPLES, Mask};
 use dependence::Deps;
 use line_model::Item;
 
@@ -99,7 +99,7 @@ impl Front {
         ensures seen { seen_of self.new.seen ≡ past_run_seen q t (seen_of self.old.seen) }
         ensures knows { self.new.knows ≡ self.old.knows }
         ensures walk { known_of self.new.walk ≡ past_run timing.now q t (known_of self.old.walk) }
-        ensures small { (n : ℕ) → IsUpTo n (known_of self.old.walk) → IsUpTo (n + 1100) (known_of self.new.walk) }
+        ensures small { (n : ℕ) → IsUpTo n (known_of self.old.walk) → IsUpTo (n + (MOST_TICKS + MOST_DELAY)) (known_of self.new.walk) }
         ensures finish { (g : ℕ) → by_processor self.new.finish g
             ≡ (if nat_eq t g then (known_of self.new.walk).up q else by_processor self.old.finish g) }
         ensures since { (g : ℕ) → set_at self.new.since g ≡ (if nat_eq t g then set_at self.old.knows.ups q else set_at self.old.since g) }
@@ -121,7 +121,7 @@ impl Front {
         ensures seen { seen_of self.new.seen ≡ past_bar_seen timing.now.processors mask (seen_of self.old.seen) }
         ensures knows { knows_of self.new.knows ≡ past_bar_knows timing.now.processors mask (knows_of self.old.knows) }
         ensures walk { known_of self.new.walk ≡ past_bar timing.now mask (known_of self.old.walk) }
-        ensures small { (n : ℕ) → IsUpTo n (known_of self.old.walk) → IsUpTo (n + 1100) (known_of self.new.walk) }
+        ensures small { (n : ℕ) → IsUpTo n (known_of self.old.walk) → IsUpTo (n + (MOST_TICKS + MOST_DELAY)) (known_of self.new.walk) }
         ensures finish { self.new.finish ≡ self.old.finish }
         ensures since { self.new.since ≡ self.old.since }
         ensures fires { (j : ℕ) → by_processor self.new.fires j

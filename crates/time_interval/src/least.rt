@@ -8,7 +8,7 @@ ghost use Rattle.time_interval.specs.Walks.{least_of};
 
 use crate::timing::Timing;
 use crate::walk::{fire_lo, later, resume, unknown};
-use bm_base::{MOST_PROCESSORS, Mask};
+use bm_base::{MOST_DELAY, MOST_PROCESSORS, MOST_TICKS, Mask};
 use line_model::Item;
 
 /// The least tick of each processor.
@@ -29,7 +29,7 @@ impl LeastWalk {
     fn at_bar(timing: &Timing, mask: Mask) -> LeastWalk
         requires { (p : ℕ) → has_bit mask p ≡ true → p < timing.now.processors }
         ensures value { (least_of result).lo ≡ (at_bar timing.now mask).lo }
-        ensures small { IsUpTo 1000 (least_of result) }
+        ensures small { IsUpTo MOST_TICKS (least_of result) }
     {
         let mut lo = unknown();
         resume(&mut lo, timing.processors(), mask, Some(timing.delay()));
@@ -42,7 +42,7 @@ impl LeastWalk {
         requires tuple { t < length timing.now.times }
         requires small { IsUpTo 3000000000 (least_of self.old) }
         ensures value { (least_of self.new).lo ≡ (past_run timing.now q t (least_of self.old)).lo }
-        ensures small { (n : ℕ) → IsUpTo n (least_of self.old) → IsUpTo (n + 1100) (least_of self.new) }
+        ensures small { (n : ℕ) → IsUpTo n (least_of self.old) → IsUpTo (n + (MOST_TICKS + MOST_DELAY)) (least_of self.new) }
     {
         prove!(timing.processors() <= MOST_PROCESSORS);
         let least = u32::from(timing.time(t).least);
@@ -54,7 +54,7 @@ impl LeastWalk {
         requires members { (p : ℕ) → has_bit mask p ≡ true → p < timing.now.processors }
         requires small { IsUpTo 3000000000 (least_of self.old) }
         ensures value { (least_of self.new).lo ≡ (past_bar timing.now mask (least_of self.old)).lo }
-        ensures small { (n : ℕ) → IsUpTo n (least_of self.old) → IsUpTo (n + 1100) (least_of self.new) }
+        ensures small { (n : ℕ) → IsUpTo n (least_of self.old) → IsUpTo (n + (MOST_TICKS + MOST_DELAY)) (least_of self.new) }
     {
         let processors = timing.processors();
         let lo = fire_lo(processors, mask, &self.lo);
@@ -65,7 +65,7 @@ impl LeastWalk {
     fn along(&mut self, timing: &Timing, items: &[Item])
         requires items { All (IsItem (length timing.now.times) timing.now.processors) items.now }
         requires few { length items.now ≤ 1000000 }
-        requires small { IsUpTo 1000 (least_of self.old) }
+        requires small { IsUpTo MOST_TICKS (least_of self.old) }
         ensures { (least_of self.new).lo ≡ (along timing.now (least_of self.old) items.now).lo }
     {
         for item in items {

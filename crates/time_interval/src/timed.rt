@@ -360,6 +360,7 @@ impl TimedLine {
         ensures value { result ≡ length (masks self.now.line) }
         ensures few { result ≤ MOST_PROCESSORS }
     {
+        // Only for its contract.
         let _items = self.line.items.items();
         places.bars()
     }

@@ -1,5 +1,5 @@
 // What is known at a place of a line since one reference.
-ghost use Rattle.std.specs.Prelude.{◌≡◌, ℕ, ◌+◌, ◌<◌, ◌≤◌, true, max, length, if◌then◌else◌};
+ghost use Rattle.std.specs.Prelude.{◌≡◌, ℕ, ◌+◌, ◌<◌, ◌≤◌, true, length, if◌then◌else◌};
 ghost use Rattle.bm_base.specs.Mask.{has_bit};
 ghost use Rattle.time_interval.specs.Bounds.{greater_known, greater_of_both, fire_lo, fire_up, later, at_start, at_bar, nothing};
 ghost use Rattle.time_interval.specs.Bounds.{past_run, past_bar};
@@ -8,21 +8,14 @@ ghost use Rattle.time_interval.specs.Walks.{known_of};
 
 use crate::members::next_member;
 use crate::timing::Timing;
-use bm_base::{MOST_PROCESSORS, MOST_TICKS, Mask};
-
-/// The greater of two numbers.
-fn larger(a: u32, b: u32) -> u32
-    ensures { result ≡ max a b }
-{
-    if a < b { b } else { a }
-}
+use bm_base::{MOST_DELAY, MOST_PROCESSORS, MOST_TICKS, Mask};
 
 /// The greater of what is known of the two.
 fn greater_known(a: Option<u32>, b: Option<u32>) -> Option<u32>
     ensures { result ≡ greater_known a b }
 {
     match (a, b) {
-        (Some(x), Some(y)) => Some(larger(x, y)),
+        (Some(x), Some(y)) => Some(x.max(y)),
         (Some(x), None) => Some(x),
         (None, y) => y,
     }
@@ -33,7 +26,7 @@ fn greater_of_both(a: Option<u32>, b: Option<u32>) -> Option<u32>
     ensures { result ≡ greater_of_both a b }
 {
     match (a, b) {
-        (Some(x), Some(y)) => Some(larger(x, y)),
+        (Some(x), Some(y)) => Some(x.max(y)),
         _ => None,
     }
 }
@@ -114,7 +107,7 @@ impl Walk {
     /// At the block's start.
     pub(crate) fn at_start(timing: &Timing) -> Walk
         ensures value { known_of result ≡ at_start timing.now }
-        ensures small { IsUpTo 1000 (known_of result) }
+        ensures small { IsUpTo MOST_TICKS (known_of result) }
     {
         let mut lo = unknown();
         for p in 0..timing.processors() {
@@ -130,7 +123,7 @@ impl Walk {
     /// Nothing is known.
     pub(crate) fn nothing() -> Walk
         ensures value { known_of result ≡ nothing }
-        ensures small { IsUpTo 1000 (known_of result) }
+        ensures small { IsUpTo MOST_TICKS (known_of result) }
     {
         let none = unknown();
         Walk {
@@ -144,7 +137,7 @@ impl Walk {
     pub(crate) fn at_bar(timing: &Timing, mask: Mask) -> Walk
         requires { (p : ℕ) → has_bit mask p ≡ true → p < timing.now.processors }
         ensures value { known_of result ≡ at_bar timing.now mask }
-        ensures small { IsUpTo 1000 (known_of result) }
+        ensures small { IsUpTo MOST_TICKS (known_of result) }
     {
         let mut lo = unknown();
         resume(&mut lo, timing.processors(), mask, Some(timing.delay()));
@@ -161,7 +154,7 @@ impl Walk {
         requires tuple { t < length timing.now.times }
         requires small { IsUpTo 3000000000 (known_of self.old) }
         ensures value { known_of self.new ≡ past_run timing.now q t (known_of self.old) }
-        ensures small { (n : ℕ) → IsUpTo n (known_of self.old) → IsUpTo (n + 1100) (known_of self.new) }
+        ensures small { (n : ℕ) → IsUpTo n (known_of self.old) → IsUpTo (n + (MOST_TICKS + MOST_DELAY)) (known_of self.new) }
     {
         prove!(timing.processors() <= MOST_PROCESSORS);
         let time = timing.time(t);
@@ -174,7 +167,7 @@ impl Walk {
         requires members { (p : ℕ) → has_bit mask p ≡ true → p < timing.now.processors }
         requires small { IsUpTo 3000000000 (known_of self.old) }
         ensures value { known_of self.new ≡ past_bar timing.now mask (known_of self.old) }
-        ensures small { (n : ℕ) → IsUpTo n (known_of self.old) → IsUpTo (n + 1100) (known_of self.new) }
+        ensures small { (n : ℕ) → IsUpTo n (known_of self.old) → IsUpTo (n + (MOST_TICKS + MOST_DELAY)) (known_of self.new) }
     {
         let processors = timing.processors();
         let lo = fire_lo(processors, mask, &self.lo);

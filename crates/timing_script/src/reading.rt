@@ -119,9 +119,7 @@ impl Script {
         ensures only_fault { (line : ℕ) → IsFirstWrong bytes.now line
             → MatchResult result (λ _. ⊥) (λ e. (e ≡ ScriptFault.ScriptText line) ⊎ (e ≡ ScriptFault.Memory)) }
     {
-        match read_rows(alloc, bytes) {
-            Ok(offsets) => Ok(Script::File(offsets)),
-            Err(fault) => Err(fault),
-        }
+        let offsets = read_rows(alloc, bytes)?;
+        Ok(Script::File(offsets))
     }
 }

@@ -35,6 +35,7 @@ pub fn write_trace<O: Sink>(
         × Sends (O.taken out.old) (O.taken out.new) text result }
     ensures cause { HasCause Failed (O.faults out.old) (O.faults out.new) result }
 {
+    // Only for their contracts.
     let _blocks = image.blocks();
     choices_are_lawful();
     kinds_have_one_trace();

@@ -18,8 +18,8 @@ use crate::{EventLines, runs_have_one_trace};
 use bm_base::{MOST_BUDGET, Names, Store};
 use bm_io::{Sink, SinkFault};
 use bm_machine::Machine;
-use bm_report::{write_end, write_going};
 use bm_run::{RunEnd, run};
+use run_text::write_ending;
 use std::alloc::Global;
 use stream_image::Image;
 use timing_law::Timing;
@@ -53,17 +53,10 @@ fn show<U: BarrierUnit, T: Timing, O: Sink>(
     ensures sent { SendsTrace U.choice T.duration machine.old budget (O.taken out.old) (O.taken out.new) result }
     ensures cause { HasCause Failed (O.faults out.old) (O.faults out.new) result }
 {
+    // Only for its contract.
     runs_have_one_trace();
-    match write_events(out, machine, budget)? {
-        RunEnd::Ended => {
-            write_end(out, machine.clock(), names, machine.store())?;
-            Ok(0)
-        }
-        RunEnd::Going => {
-            write_going(out, budget)?;
-            Ok(8)
-        }
-    }
+    let end = write_events(out, machine, budget)?;
+    write_ending(out, machine, names, budget, end)
 }
 
 /// Writes the trace of the run of a program from this memory, on this unit with this timing, at clocks
@@ -89,6 +82,7 @@ pub fn write_trace_on<U: BarrierUnit, T: Timing, O: Sink>(
         × Sends (O.taken out.old) (O.taken out.new) text result }
     ensures cause { HasCause Failed (O.faults out.old) (O.faults out.new) result }
 {
+    // Only for their contracts.
     let _blocks = image.blocks();
     runs_have_one_trace();
     let mut machine = Machine::new(alloc, image, store, unit, timing)?;

@@ -1,4 +1,4 @@
-use Rattle.std.proofs.Common.{◌≡◌, ◌+◌, ◌≤◌, ◌∙◌, ℕ, List, Option, Some, None, sym, ap, subst, arith}
+use Rattle.std.proofs.Common.{◌+◌, ◌≤◌, ◌∙◌, List, sym, subst, arith}
 use Rattle.bm_base.specs.Prefix.{IsPrefixOf}
 use Rattle.tuple_ir.specs.Serial.{outcome}
 use Rattle.timing_script.specs.Script.{script_duration}

@@ -6,6 +6,7 @@ use Rattle.bm_machine.specs.Agenda.{due_at, hold_until}
 use Rattle.bm_machine.specs.Shown.{dues_of, processor_of}
 use Rattle.bm_machine.proofs.Dues.{entries, entries_less}
 use Rattle.bm_machine.proofs.Ables.{passes_by, by_dues}
+use Rattle.bm_machine.proofs.Staying.{unit_on}
 use Rattle.bm_machine.proofs.Releasing.{IsLeft, left_more, right_then, all_later}
 use Rattle.bm_machine.proofs.arrive.release.Given as given
 use Rattle.bm_machine.proofs.arrive.release.Goals as goal
@@ -23,14 +24,11 @@ loop-p-preserved g c =
     let new = c.in-Some.ensures.some.1 in
     record {
       told = c.see.ensures.told;
-      bits = subst (λ l. (q : ℕ) → has_bit c.see.new.told q ≡ passes_by is_wait code (map processor_of c.args.actors.now) l q) (sym new) (right_then c.args.agenda.now c.args.clock c.args.tick c.args.actors.now c.requires.agenda c.loop-p.agenda i.long i.left c.in-Some.p hold is_wait code (has_bit c.loop-p.told) (has_bit c.see.new.told) _ c.stream.result.now c.stream.ensures c.see.ensures.bits i.bits);
-      able = subst (λ l. (q : ℕ) → has_bit c.see.new.able q ≡ passes_by is_do code (map processor_of c.args.actors.now) l q) (sym new) (right_then c.args.agenda.now c.args.clock c.args.tick c.args.actors.now c.requires.agenda c.loop-p.agenda i.long i.left c.in-Some.p hold is_do code (has_bit c.loop-p.able) (has_bit c.see.new.able) _ c.stream.result.now c.stream.ensures c.see.ensures.able i.able);
+      bits = subst (λ l. (q : ℕ) → has_bit c.see.new.told q ≡ passes_by is_wait code (map processor_of c.args.actors.now) l q) (sym new) (right_then c.args.agenda.now c.args.clock c.args.tick c.args.actors.now c.requires.agenda c.loop-p.agenda i.long i.left c.in-Some.p hold is_wait code (has_bit c.loop-p.told) (has_bit c.see.new.told) _ c.stream-items.result.now c.stream-items.ensures c.see.ensures.bits i.bits);
+      able = subst (λ l. (q : ℕ) → has_bit c.see.new.able q ≡ passes_by is_do code (map processor_of c.args.actors.now) l q) (sym new) (right_then c.args.agenda.now c.args.clock c.args.tick c.args.actors.now c.requires.agenda c.loop-p.agenda i.long i.left c.in-Some.p hold is_do code (has_bit c.loop-p.able) (has_bit c.see.new.able) _ c.stream-items.result.now c.stream-items.ensures c.see.ensures.able i.able);
       long = ap length new ∙ length-set c.loop-p.agenda c.in-Some.p None ∙ i.long;
       left = subst (IsLeft c.args.agenda.now c.args.tick) (sym new) (left_more c.args.agenda.now c.args.clock c.args.tick c.args.actors.now c.requires.agenda c.loop-p.agenda i.long i.left c.in-Some.p hold);
-      masks = c.see.ensures.masks ∙ i.masks;
-      fired = c.see.ensures.fired ∙ i.fired;
-      capacity = c.see.ensures.capacity ∙ i.capacity;
-      choice = c.see.ensures.choice ∙ i.choice;
+      unit = unit_on _ _ _ _ _ _ _ i.unit c.see.ensures.unit;
     }
 
 -- ---- none is left
@@ -40,8 +38,11 @@ over g c none = all_later c.args.agenda.now c.args.clock c.args.tick c.args.acto
 pub returns-clause-agenda : goal.returns-clause-agenda
 returns-clause-agenda g c = c.in_default.ensures.none.0 ∙ over g (goal.at.returns-clause-agenda g c).After-pop_hold c.in_default.ensures.none.1
 
-pub returns-clause-bits : goal.returns-clause-bits
-returns-clause-bits g c = λ p. c.loop-p.invariant.bits p ∙ by_dues is_wait (code_at c.args.image.now c.args.block) c.args.tick (map processor_of c.args.actors.now) c.loop-p.agenda p (over g (goal.at.returns-clause-bits g c).After-pop_hold c.in_default.ensures.none.1)
-
-pub returns-clause-able : goal.returns-clause-able
-returns-clause-able g c = λ p. c.loop-p.invariant.able p ∙ by_dues is_do (code_at c.args.image.now c.args.block) c.args.tick (map processor_of c.args.actors.now) c.loop-p.agenda p (over g (goal.at.returns-clause-able g c).After-pop_hold c.in_default.ensures.none.1)
+pub returns-clause-sees : goal.returns-clause-sees
+returns-clause-sees g c =
+    let left = over g (goal.at.returns-clause-sees g c).After-pop_hold c.in_default.ensures.none.1 in
+    record {
+      told_is = c.loop-p.invariant.told;
+      told_has = λ p. c.loop-p.invariant.bits p ∙ by_dues is_wait (code_at c.args.image.now c.args.block) c.args.tick (map processor_of c.args.actors.now) c.loop-p.agenda p left;
+      able_has = λ p. c.loop-p.invariant.able p ∙ by_dues is_do (code_at c.args.image.now c.args.block) c.args.tick (map processor_of c.args.actors.now) c.loop-p.agenda p left;
+    }

@@ -1,5 +1,6 @@
 use Rattle.std.proofs.Common.{rules, ◌≡◌, ◌∙◌, ◌+◌, ◌-◌, suc, ap, refl, drop, arith, Ok, Err, w64, to_z, of_z, FitsSigned}
 use Rattle.std.proofs.lemmas.Int.{to_z-of_z}
+use Rattle.std.proofs.lemmas.Result.{err_from_is_err_and}
 use Rattle.std.proofs.Math.ListN.{drop_of_length-le}
 use Rattle.src_names.specs.declared.resolved.RStmt.{the_lemmas}
 use Rattle.src_names.proofs.Induct.{drop_first}
@@ -71,8 +72,8 @@ run-loop-cond-smaller g t c =
     let new = c.run_all-in-loop-cond.new in
     let some : c.loop-cond.turns ≡ suc (c.loop-cond.turns - 1) = omega (arith, c.if-turns-eq0.false) in
     turns_fall g.V.Values.with_value g.V.Values.leaves g.V.Values.is_sure v (g.V.Values.held new.out) (g.V.Values.faults new.out) c.loop-cond.turns (c.loop-cond.turns - 1) new.turns c.loop-cond.store new.store c.in-While.body some
-    (as_body g.V.Values.with_value g.V.Values.leaves g.V.Values.is_sure v (seen (g.V.Values.held new.out) (g.V.Values.faults new.out) new.turns new.store) c.as_slice-in-loop-cond.result.now c.in-While.body (c.loop-cond.turns - 1) c.loop-cond.store c.run_all-in-loop-cond.result (Ok Done)
-    c.as_slice-in-loop-cond.ensures (c.in-Ok-Done.is ∙ ap Ok c.in-Ok-Done.field-0-is) c.run_all-in-loop-cond.ensures.evaluates)
+    (as_body g.V.Values.with_value g.V.Values.leaves g.V.Values.is_sure v (seen (g.V.Values.held new.out) (g.V.Values.faults new.out) new.turns new.store) c.as_slice-in-loop-cond.result.now c.in-While.body (c.loop-cond.turns - 1) c.loop-cond.store (Ok c.in_ok-run_all-in-While.field-0) (Ok Done)
+    c.as_slice-in-loop-cond.ensures (ap Ok c.in-Done.is) c.in_ok-run_all-in-While.ensures.evaluates)
 
 pub run-loop-cond-preserved : goal.run-loop-cond-preserved
 run-loop-cond-preserved g t c =
@@ -85,13 +86,13 @@ run-loop-cond-preserved g t c =
       rest = loop_again g.V.Values.with_value g.V.Values.leaves g.V.Values.is_sure (g.V.Values.held c.loop-cond.out) (g.V.Values.faults c.loop-cond.out) c.loop-cond.turns c.loop-cond.store
           (seen (g.V.Values.held c.args.out.now) (g.V.Values.faults c.args.out.now) c.args.turns.now c.args.store.now) (statement c.args.stmt.now c.args.turns.now c.args.store.now)
           c.in-While.cond c.in-While.body c.value_in-in-loop-cond.result c.value_in-in-loop-cond.ensures c.loop-cond.invariant.rest j w (some_word c.value_in-in-loop-cond.result c.loop-cond-test.true) some
-          (as_body g.V.Values.with_value g.V.Values.leaves g.V.Values.is_sure v w c.as_slice-in-loop-cond.result.now c.in-While.body j c.loop-cond.store c.run_all-in-loop-cond.result (Ok Done) c.as_slice-in-loop-cond.ensures (c.in-Ok-Done.is ∙ ap Ok c.in-Ok-Done.field-0-is) c.run_all-in-loop-cond.ensures.evaluates);
+          (as_body g.V.Values.with_value g.V.Values.leaves g.V.Values.is_sure v w c.as_slice-in-loop-cond.result.now c.in-While.body j c.loop-cond.store (Ok c.in_ok-run_all-in-While.field-0) (Ok Done) c.as_slice-in-loop-cond.ensures (ap Ok c.in-Done.is) c.in_ok-run_all-in-While.ensures.evaluates);
       suits = suits-while-kept c.in-While.cond c.in-While.body c.loop-cond.store new.store c.run_all-in-loop-cond.ensures.evaluates.names c.loop-cond.invariant.suits;
       lender = c.run_all-in-loop-cond.ensures.lender ∙ c.loop-cond.invariant.lender;
     }
 
-pub run-returns-in-Ok-More-clause-evaluates : goal.run-returns-in-Ok-More-clause-evaluates
-run-returns-in-Ok-More-clause-evaluates g t c =
+pub run-returns-in-More-clause-evaluates : goal.run-returns-in-More-clause-evaluates
+run-returns-in-More-clause-evaluates g t c =
     let j = c.loop-cond.turns - 1 in
     let v = seen (g.V.Values.held c.loop-cond.out) (g.V.Values.faults c.loop-cond.out) j c.loop-cond.store in
     let new = c.run_all-in-loop-cond.new in
@@ -100,31 +101,33 @@ run-returns-in-Ok-More-clause-evaluates g t c =
     loop_more g.V.Values.with_value g.V.Values.leaves g.V.Values.is_sure (g.V.Values.held c.loop-cond.out) (g.V.Values.faults c.loop-cond.out) c.loop-cond.turns c.loop-cond.store
     (seen (g.V.Values.held c.args.out.now) (g.V.Values.faults c.args.out.now) c.args.turns.now c.args.store.now) (statement c.args.stmt.now c.args.turns.now c.args.store.now)
     c.in-While.cond c.in-While.body c.value_in-in-loop-cond.result c.value_in-in-loop-cond.ensures c.loop-cond.invariant.rest j w (some_word c.value_in-in-loop-cond.result c.loop-cond-test.true) some
-    (as_body g.V.Values.with_value g.V.Values.leaves g.V.Values.is_sure v w c.as_slice-in-loop-cond.result.now c.in-While.body j c.loop-cond.store c.run_all-in-loop-cond.result (Ok More) c.as_slice-in-loop-cond.ensures (c.in-Ok-More.is ∙ ap Ok c.in-Ok-More.field-0-is) c.run_all-in-loop-cond.ensures.evaluates)
+    (as_body g.V.Values.with_value g.V.Values.leaves g.V.Values.is_sure v w c.as_slice-in-loop-cond.result.now c.in-While.body j c.loop-cond.store (Ok c.in_ok-run_all-in-While.field-0) (Ok More) c.as_slice-in-loop-cond.ensures (ap Ok c.in-More.is) c.in_ok-run_all-in-While.ensures.evaluates)
 
-pub run-returns-in-Err-run_all-clause-evaluates : goal.run-returns-in-Err-run_all-clause-evaluates
-run-returns-in-Err-run_all-clause-evaluates g t c =
+pub run-returns-in_err-run_all-in-While-clause-evaluates : goal.run-returns-in_err-run_all-in-While-clause-evaluates
+run-returns-in_err-run_all-in-While-clause-evaluates g t c =
     let j = c.loop-cond.turns - 1 in
     let v = seen (g.V.Values.held c.loop-cond.out) (g.V.Values.faults c.loop-cond.out) j c.loop-cond.store in
     let new = c.run_all-in-loop-cond.new in
     let w = seen (g.V.Values.held new.out) (g.V.Values.faults new.out) new.turns new.store in
     let some : c.loop-cond.turns ≡ suc (c.loop-cond.turns - 1) = omega (arith, c.if-turns-eq0.false) in
-    loop_fault g.V.Values.with_value g.V.Values.leaves g.V.Values.is_sure (g.V.Values.held c.loop-cond.out) (g.V.Values.faults c.loop-cond.out) c.loop-cond.turns c.loop-cond.store
+    let p = err_from_is_err_and c.from_residual-in_err-run_all-in-While.result c.from_residual-in_err-run_all-in-While.ensures.1 in
+    rw (p.1, p.2) (loop_fault g.V.Values.with_value g.V.Values.leaves g.V.Values.is_sure (g.V.Values.held c.loop-cond.out) (g.V.Values.faults c.loop-cond.out) c.loop-cond.turns c.loop-cond.store
     (seen (g.V.Values.held c.args.out.now) (g.V.Values.faults c.args.out.now) c.args.turns.now c.args.store.now) (statement c.args.stmt.now c.args.turns.now c.args.store.now)
-    c.in-While.cond c.in-While.body c.value_in-in-loop-cond.result c.value_in-in-loop-cond.ensures c.loop-cond.invariant.rest j w c.in-Err-run_all.fault (some_word c.value_in-in-loop-cond.result c.loop-cond-test.true) some
-    (as_body g.V.Values.with_value g.V.Values.leaves g.V.Values.is_sure v w c.as_slice-in-loop-cond.result.now c.in-While.body j c.loop-cond.store c.run_all-in-loop-cond.result (Err c.in-Err-run_all.fault) c.as_slice-in-loop-cond.ensures c.in-Err-run_all.is c.run_all-in-loop-cond.ensures.evaluates)
+    c.in-While.cond c.in-While.body c.value_in-in-loop-cond.result c.value_in-in-loop-cond.ensures c.loop-cond.invariant.rest j w c.in_err-run_all-in-While.field-0.0 (some_word c.value_in-in-loop-cond.result c.loop-cond-test.true) some
+    (as_body g.V.Values.with_value g.V.Values.leaves g.V.Values.is_sure v w c.as_slice-in-loop-cond.result.now c.in-While.body j c.loop-cond.store (Err c.in_err-run_all-in-While.field-0.0) (Err c.in_err-run_all-in-While.field-0.0) c.as_slice-in-loop-cond.ensures refl c.in_err-run_all-in-While.ensures.evaluates))
 
-pub run-returns-in-Ok-clause-evaluates : goal.run-returns-in-Ok-clause-evaluates
-run-returns-in-Ok-clause-evaluates g t c =
+pub run-returns-in_ok-value-in-Print-clause-evaluates : goal.run-returns-in_ok-value-in-Print-clause-evaluates
+run-returns-in_ok-value-in-Print-clause-evaluates g t c =
     let fits : FitsSigned w64 c.value_in.result = search rules in
     printed g.V.Values.with_value g.V.Values.leaves g.V.Values.is_sure (g.V.Values.held c.args.out.now) (g.V.Values.held c.value.new.self) (g.V.Values.faults c.args.out.now) (g.V.Values.faults c.value.new.self) c.args.turns.now c.args.store.now
-    c.args.stmt.now c.in-Print.x (to_z w64 (of_z w64 c.value_in.result)) c.in-Ok.field-0 c.in-Print.is (to_z-of_z w64 c.value_in.result fits ∙ c.value_in.ensures) c.in-Ok.ensures.taken c.in-Ok.ensures.cause
+    c.args.stmt.now c.in-Print.x (to_z w64 (of_z w64 c.value_in.result)) c.in_ok-value-in-Print.field-0 c.in-Print.is (to_z-of_z w64 c.value_in.result fits ∙ c.value_in.ensures) c.in_ok-value-in-Print.ensures.taken c.in_ok-value-in-Print.ensures.cause
 
-pub run-returns-in-Err-clause-evaluates : goal.run-returns-in-Err-clause-evaluates
-run-returns-in-Err-clause-evaluates g t c =
+pub run-returns-in_err-value-in-Print-clause-evaluates : goal.run-returns-in_err-value-in-Print-clause-evaluates
+run-returns-in_err-value-in-Print-clause-evaluates g t c =
     let fits : FitsSigned w64 c.value_in.result = search rules in
-    refused g.V.Values.with_value g.V.Values.leaves g.V.Values.is_sure (g.V.Values.held c.args.out.now) (g.V.Values.held c.value.new.self) (g.V.Values.faults c.args.out.now) (g.V.Values.faults c.value.new.self) c.args.turns.now c.args.store.now
-    c.args.stmt.now c.in-Print.x (to_z w64 (of_z w64 c.value_in.result)) c.in-Err.fault c.in-Print.is (to_z-of_z w64 c.value_in.result fits ∙ c.value_in.ensures) c.in-Err.ensures.refused c.in-Err.ensures.cause c.in-Err.ensures.sure
+    let p = err_from_is_err_and c.from_residual.result c.from_residual.ensures.1 in
+    rw (p.1, p.2) (refused g.V.Values.with_value g.V.Values.leaves g.V.Values.is_sure (g.V.Values.held c.args.out.now) (g.V.Values.held c.value.new.self) (g.V.Values.faults c.args.out.now) (g.V.Values.faults c.value.new.self) c.args.turns.now c.args.store.now
+    c.args.stmt.now c.in-Print.x (to_z w64 (of_z w64 c.value_in.result)) c.in_err-value-in-Print.field-0.0 c.in-Print.is (to_z-of_z w64 c.value_in.result fits ∙ c.value_in.ensures) c.in_err-value-in-Print.ensures.refused c.in_err-value-in-Print.ensures.cause c.in_err-value-in-Print.ensures.sure)
 
 pub run-returns-then-value_in-eq0-clause-evaluates : goal.run-returns-then-value_in-eq0-clause-evaluates
 run-returns-then-value_in-eq0-clause-evaluates g t c =
@@ -152,21 +155,22 @@ run-returns-after-loop-cond-clause-evaluates g t c =
     (seen (g.V.Values.held c.args.out.now) (g.V.Values.faults c.args.out.now) c.args.turns.now c.args.store.now) (statement c.args.stmt.now c.args.turns.now c.args.store.now)
     c.in-While.cond c.in-While.body c.value_in-in-loop-cond.result c.value_in-in-loop-cond.ensures c.loop-cond.invariant.rest (zero_word c.value_in-in-loop-cond.result fits c.loop-cond-test.false)
 
-pub run_all-returns-in-Ok-More-clause-evaluates : goal.run_all-returns-in-Ok-More-clause-evaluates
-run_all-returns-in-Ok-More-clause-evaluates g t c =
+pub run_all-returns-in-More-clause-evaluates : goal.run_all-returns-in-More-clause-evaluates
+run_all-returns-in-More-clause-evaluates g t c =
     let v = seen (g.V.Values.held c.loop-stmt.out) (g.V.Values.faults c.loop-stmt.out) c.loop-stmt.turns c.loop-stmt.store in
     let w = seen (g.V.Values.held c.run.new.out) (g.V.Values.faults c.run.new.out) c.run.new.turns c.run.new.store in
     let start = seen (g.V.Values.held c.args.out.now) (g.V.Values.faults c.args.out.now) c.args.turns.now c.args.store.now in
     first_more g.V.Values.with_value g.V.Values.leaves g.V.Values.is_sure v w start (statements c.args.body.now c.args.turns.now c.args.store.now) c.args.body.now c.loop-stmt.stmt-index c.stmt-item.result
-    c.loop-stmt-test.true c.stmt-item.is c.loop-stmt.invariant.rest c.run.result c.in-Ok-More.field-0 c.in-Ok-More.is c.in-Ok-More.field-0-is c.run.ensures.evaluates
+    c.loop-stmt-test.true c.stmt-item.is c.loop-stmt.invariant.rest (Ok c.in_ok-run.field-0) c.in_ok-run.field-0 refl c.in-More.is c.in_ok-run.ensures.evaluates
 
-pub run_all-returns-in-Err-clause-evaluates : goal.run_all-returns-in-Err-clause-evaluates
-run_all-returns-in-Err-clause-evaluates g t c =
+pub run_all-returns-in_err-run-clause-evaluates : goal.run_all-returns-in_err-run-clause-evaluates
+run_all-returns-in_err-run-clause-evaluates g t c =
     let v = seen (g.V.Values.held c.loop-stmt.out) (g.V.Values.faults c.loop-stmt.out) c.loop-stmt.turns c.loop-stmt.store in
     let w = seen (g.V.Values.held c.run.new.out) (g.V.Values.faults c.run.new.out) c.run.new.turns c.run.new.store in
     let start = seen (g.V.Values.held c.args.out.now) (g.V.Values.faults c.args.out.now) c.args.turns.now c.args.store.now in
-    first_fault g.V.Values.with_value g.V.Values.leaves g.V.Values.is_sure v w start (statements c.args.body.now c.args.turns.now c.args.store.now) c.args.body.now c.loop-stmt.stmt-index c.stmt-item.result
-    c.loop-stmt-test.true c.stmt-item.is c.loop-stmt.invariant.rest c.run.result c.in-Err.fault c.in-Err.is c.run.ensures.evaluates
+    let p = err_from_is_err_and c.from_residual.result c.from_residual.ensures.1 in
+    rw (p.1, p.2) (first_fault g.V.Values.with_value g.V.Values.leaves g.V.Values.is_sure v w start (statements c.args.body.now c.args.turns.now c.args.store.now) c.args.body.now c.loop-stmt.stmt-index c.stmt-item.result
+    c.loop-stmt-test.true c.stmt-item.is c.loop-stmt.invariant.rest (Err c.in_err-run.field-0.0) c.in_err-run.field-0.0 refl c.in_err-run.ensures.evaluates)
 
 pub run_all-loop-stmt-preserved : goal.run_all-loop-stmt-preserved
 run_all-loop-stmt-preserved g t c =
@@ -178,7 +182,7 @@ run_all-loop-stmt-preserved g t c =
     let start = seen (g.V.Values.held c.args.out.now) (g.V.Values.faults c.args.out.now) c.args.turns.now c.args.store.now in
     record {
       rest = first_done g.V.Values.with_value g.V.Values.leaves g.V.Values.is_sure v w start (statements zs c.args.turns.now c.args.store.now) zs i z
-          c.loop-stmt-test.true c.stmt-item.is c.loop-stmt.invariant.rest c.run.result c.in-Ok-Done.field-0 c.in-Ok-Done.is c.in-Ok-Done.field-0-is c.run.ensures.evaluates;
+          c.loop-stmt-test.true c.stmt-item.is c.loop-stmt.invariant.rest (Ok c.in_ok-run.field-0) c.in_ok-run.field-0 refl c.in-Done.is c.in_ok-run.ensures.evaluates;
       suits = suits-rest (drop i zs) z (drop (i + 1) zs) c.loop-stmt.store c.run.new.store (drop_first zs i z c.loop-stmt-test.true c.stmt-item.is) c.run.ensures.evaluates.names c.loop-stmt.invariant.suits;
       lender = c.run.ensures.lender ∙ c.loop-stmt.invariant.lender;
     }

@@ -1,75 +1,31 @@
-use Rattle.std.proofs.Common.{◌≤◌, ◌∙◌, refl, sym, ap, subst, Ok, Err}
+use Rattle.std.proofs.Common.{◌≤◌, ◌∙◌, sym, ap}
 use Rattle.std.proofs.lemmas.Result.{err_from_is_err_and}
-use Rattle.bm_base.specs.Memories.{IsMemoryOf}
-use Rattle.bm_run.specs.declared.runs.RunEnd.TheVariants.{Ended, Going}
-use Rattle.bm_report.specs.Text.{end_lines, going_lines}
-use Rattle.bm_course.proofs.Sending.{sends_all, sends_part}
-use Rattle.run_text.proofs.Texts.{end_as, sent_as}
+use Rattle.bm_run.specs.Runs.{end_told}
+use Rattle.run_text.proofs.Texts.{ending_as}
 use Rattle.trace_text.proofs.Told.{come_first, starts_early}
 use Rattle.trace_text.proofs.Traces.{events_stop, then_ending}
 use Rattle.trace_text.proofs.writing.show.Goals as goal
 
-pub write_end-requires : goal.write_end-requires
-write_end-requires g c =
-    let same = c.requires.names ∙ sym (ap (λ p. p.names) c.write_events.ensures.stays.program) in
-    subst (λ names. IsMemoryOf names c.store.result.now) (sym same) c.store.ensures.memory
-
-pub returns-in_err-write_events-clause-sent : goal.returns-in_err-write_events-clause-sent
-returns-in_err-write_events-clause-sent g c memory text starts is =
+pub returns-in_err-end-clause-sent : goal.returns-in_err-end-clause-sent
+returns-in_err-end-clause-sent g c memory text starts is =
     let m = c.args.machine.now in
     let choice = g.U.BarrierUnit.choice m.unit in
     let durations = g.T.Timing.duration m.timing in
     let p = err_from_is_err_and c.from_residual.result c.from_residual.ensures.1 in
     let l : m.state.clock ≤ c.args.budget = starts_early m.program memory m.state m.counts c.args.budget starts in
-    let t = c.in_err-write_events.ensures.tells memory (come_first choice durations m.program memory m.state m.counts starts) l in
-    rw (p.1, p.2) (events_stop choice durations m.program memory c.args.budget text is m.state.world.output c.write_events.new.machine.state _ _ c.in_err-write_events.field-0.0 t)
+    let t = c.in_err-end.ensures.tells memory (come_first choice durations m.program memory m.state m.counts starts) l in
+    rw (p.1, p.2) (events_stop choice durations m.program memory c.args.budget text is m.state.world.output c.write_events.new.machine.state _ _ c.in_err-end.field-0.0 t)
 
-pub returns-in_ok-write_end-in-Ended-clause-sent : goal.returns-in_ok-write_end-in-Ended-clause-sent
-returns-in_ok-write_end-in-Ended-clause-sent g c memory text starts is =
+pub write_ending-requires : goal.write_ending-requires
+write_ending-requires g c = c.requires.names ∙ sym (ap (λ p. p.names) c.write_events.ensures.stays.program)
+
+pub returns-clause-sent : goal.returns-clause-sent
+returns-clause-sent g c memory text starts is =
     let m = c.args.machine.now in
+    let n = c.write_events.new.machine in
     let choice = g.U.BarrierUnit.choice m.unit in
     let durations = g.T.Timing.duration m.timing in
-    let n = c.write_events.new.machine.state in
     let l : m.state.clock ≤ c.args.budget = starts_early m.program memory m.state m.counts c.args.budget starts in
-    let e = rw c.in-Ended.is at c.in_ok-write_events.ensures in
-    let w = sent_as _ _ (end_lines c.clock.result c.args.names.now c.store.result.now) (end_lines n.clock m.program.names n.world.memory) _
-    (end_as c.clock.result n.clock c.args.names.now m.program.names c.store.result.now n.world.memory c.clock.ensures.value c.requires.names c.store.ensures.value) c.in_ok-write_end-in-Ended.ensures.sent in
-    then_ending choice durations m.program memory c.args.budget text is m.state.world.output n Ended _ _ _ (Ok 0) (e.tells memory (come_first choice durations m.program memory m.state m.counts starts) l)
-    (sends_all _ _ (record { status = 0; lines = end_lines n.clock m.program.names n.world.memory }) tt 0 refl w)
-
-pub returns-in_err-write_end-in-Ended-clause-sent : goal.returns-in_err-write_end-in-Ended-clause-sent
-returns-in_err-write_end-in-Ended-clause-sent g c memory text starts is =
-    let m = c.args.machine.now in
-    let choice = g.U.BarrierUnit.choice m.unit in
-    let durations = g.T.Timing.duration m.timing in
-    let n = c.write_events.new.machine.state in
-    let l : m.state.clock ≤ c.args.budget = starts_early m.program memory m.state m.counts c.args.budget starts in
-    let e = rw c.in-Ended.is at c.in_ok-write_events.ensures in
-    let p = err_from_is_err_and c.from_residual-in_err-write_end-in-Ended.result c.from_residual-in_err-write_end-in-Ended.ensures.1 in
-    let w = sent_as _ _ (end_lines c.clock.result c.args.names.now c.store.result.now) (end_lines n.clock m.program.names n.world.memory) _
-    (end_as c.clock.result n.clock c.args.names.now m.program.names c.store.result.now n.world.memory c.clock.ensures.value c.requires.names c.store.ensures.value) c.in_err-write_end-in-Ended.ensures.sent in
-    rw (p.1, p.2) (then_ending choice durations m.program memory c.args.budget text is m.state.world.output n Ended _ _ _ (Err c.in_err-write_end-in-Ended.field-0.0) (e.tells memory (come_first choice durations m.program memory m.state m.counts starts) l)
-    (sends_part _ _ (record { status = 0; lines = end_lines n.clock m.program.names n.world.memory }) c.in_err-write_end-in-Ended.field-0.0 w))
-
-pub returns-in_ok-write_going-in-Going-clause-sent : goal.returns-in_ok-write_going-in-Going-clause-sent
-returns-in_ok-write_going-in-Going-clause-sent g c memory text starts is =
-    let m = c.args.machine.now in
-    let choice = g.U.BarrierUnit.choice m.unit in
-    let durations = g.T.Timing.duration m.timing in
-    let n = c.write_events.new.machine.state in
-    let l : m.state.clock ≤ c.args.budget = starts_early m.program memory m.state m.counts c.args.budget starts in
-    let e = rw c.in-Going.is at c.in_ok-write_events.ensures in
-    then_ending choice durations m.program memory c.args.budget text is m.state.world.output n Going _ _ _ (Ok 8) (e.tells memory (come_first choice durations m.program memory m.state m.counts starts) l)
-    (sends_all _ _ (record { status = 8; lines = going_lines c.args.budget }) tt 8 refl c.in_ok-write_going-in-Going.ensures.sent)
-
-pub returns-in_err-write_going-in-Going-clause-sent : goal.returns-in_err-write_going-in-Going-clause-sent
-returns-in_err-write_going-in-Going-clause-sent g c memory text starts is =
-    let m = c.args.machine.now in
-    let choice = g.U.BarrierUnit.choice m.unit in
-    let durations = g.T.Timing.duration m.timing in
-    let n = c.write_events.new.machine.state in
-    let l : m.state.clock ≤ c.args.budget = starts_early m.program memory m.state m.counts c.args.budget starts in
-    let e = rw c.in-Going.is at c.in_ok-write_events.ensures in
-    let p = err_from_is_err_and c.from_residual-in_err-write_going-in-Going.result c.from_residual-in_err-write_going-in-Going.ensures.1 in
-    rw (p.1, p.2) (then_ending choice durations m.program memory c.args.budget text is m.state.world.output n Going _ _ _ (Err c.in_err-write_going-in-Going.field-0.0) (e.tells memory (come_first choice durations m.program memory m.state m.counts starts) l)
-    (sends_part _ _ (record { status = 8; lines = going_lines c.args.budget }) c.in_err-write_going-in-Going.field-0.0 c.in_err-write_going-in-Going.ensures.sent))
+    then_ending choice durations m.program memory c.args.budget text is m.state.world.output n.state c.in_ok-end.end _ _ _
+    c.write_ending.result (c.in_ok-end.ensures.tells memory (come_first choice durations m.program memory m.state m.counts starts) l)
+    (ending_as _ _ c.args.budget (end_told c.in_ok-end.end n.state) _ _ c.write_ending.result (ap (λ p. p.names) c.write_events.ensures.stays.program) c.write_ending.ensures.sent)

@@ -13,7 +13,7 @@ use Rattle.bm_machine.proofs.WithinBlock.{waits_standing}
 use Rattle.bm_machine.proofs.Entering.{Leaving, entered_is, entered_unfired, entered_kept, entered_left}
 use Rattle.bm_machine.proofs.machine.Machine.enter.Given as given
 use Rattle.bm_machine.proofs.machine.Machine.enter.Goals as goal
-use Rattle.bm_machine.proofs.machine.Machine.enter.Goals.{After-deref, After-see_all}
+use Rattle.bm_machine.proofs.machine.Machine.enter.Goals.{After-deref, After-see_members}
 
 -- the state of a machine by its fields
 abbrev state_of : (g : given.Over) → Inside g.row.U.Denot g.row.T.Denot → State
@@ -46,26 +46,28 @@ then g c = entered c.self.inside.image.now c.args.next (c.self.inside.clock + 1)
 wait_then : (g : given.Over) (c : After-deref g) → (p : ℕ) → waits (code_at c.self.inside.image.now c.args.next) (standing_at (c.self.inside.clock + 1) c.deref.result.now) p ≡ waits (code_at c.self.inside.image.now c.args.next) (then g c) p
 wait_then g c = waits_standing (code_at c.self.inside.image.now c.args.next) (then g c) c.deref.result.now (sym (ap (map processor_of) c.deref.ensures.value ∙ rest_all g c))
 
-pub see_all-requires-clause-unfired : goal.see_all-requires-clause-unfired
-see_all-requires-clause-unfired g c = λ p w. rw (c.load.ensures.masks, c.load.ensures.fired, c.masks.ensures) (entered_unfired (facts g c) p (sym (wait_then g c p) ∙ w))
+pub see_members-requires-clause-unfired : goal.see_members-requires-clause-unfired
+see_members-requires-clause-unfired g c =
+    let d = (goal.at.see_members-requires-clause-unfired g c).After-deref in
+    λ p w. rw (c.load.ensures.masks, c.load.ensures.fired, c.masks.ensures) (entered_unfired (facts g d) p (sym (wait_then g d p) ∙ w))
 
 -- the machine's state after it
-abbrev new_state : (g : given.Over) → After-see_all g → State
-new_state g c = record { clock = c.self.inside.clock + 1; mode = In c.args.next; processors = map processor_of c.fill.new.self.items; fired = g.U.BarrierUnit.fired c.see_all.new.unit; world = record { cells = c.self.inside.cells.items; memory = c.self.inside.store; output = c.self.inside.output.items } }
+abbrev new_state : (g : given.Over) → After-see_members g → State
+new_state g c = record { clock = c.self.inside.clock + 1; mode = In c.args.next; processors = map processor_of c.fill.new.self.items; fired = g.U.BarrierUnit.fired c.see_members.new.unit; world = record { cells = c.self.inside.cells.items; memory = c.self.inside.store; output = c.self.inside.output.items } }
 
-abbrev before : (g : given.Over) → After-see_all g → After-deref g
+abbrev before : (g : given.Over) → After-see_members g → After-deref g
 before g c = (goal.at.invariant_of-self g c).After-deref
 
-effect : (g : given.Over) (c : After-see_all g) → new_state g c ≡ then g (before g c)
-effect g c = state_is (new_state g c) (then g (before g c)) refl refl (rest_all g (before g c)) (c.see_all.ensures.fired ∙ c.load.ensures.fired ∙ ap (map (λ _. false)) c.masks.ensures) refl
+effect : (g : given.Over) (c : After-see_members g) → new_state g c ≡ then g (before g c)
+effect g c = state_is (new_state g c) (then g (before g c)) refl refl (rest_all g (before g c)) (c.see_members.ensures.unit.fired ∙ c.load.ensures.fired ∙ ap (map (λ _. false)) c.masks.ensures) refl
 
 pub invariant_of-self : goal.invariant_of-self
 invariant_of-self g c =
     let d = before g c in
     record {
-      kept = entered_kept (facts g d) (new_state g c) c.see_all.new.told (g.U.BarrierUnit.capacity c.see_all.new.unit) (g.U.BarrierUnit.queue c.see_all.new.unit) (g.U.BarrierUnit.waiting c.see_all.new.unit) (effect g c) (c.see_all.ensures.capacity ∙ c.load.ensures.capacity) (c.see_all.ensures.masks ∙ c.load.ensures.masks ∙ c.masks.ensures) c.see_all.ensures.told (λ p. c.see_all.ensures.bits p ∙ wait_then g d p);
+      kept = entered_kept (facts g d) (new_state g c) c.see_members.new.told (g.U.BarrierUnit.capacity c.see_members.new.unit) (g.U.BarrierUnit.queue c.see_members.new.unit) (g.U.BarrierUnit.waiting c.see_members.new.unit) (effect g c) (c.see_members.ensures.unit.capacity ∙ c.load.ensures.capacity) (c.see_members.ensures.unit.masks ∙ c.load.ensures.masks ∙ c.masks.ensures) c.see_members.ensures.sees.told_is (λ p. c.see_members.ensures.sees.told_has p ∙ wait_then g d p);
       agenda_is = c.clear.ensures ∙ ap (λ n. replicate n None) (agenda_long g d) ∙ sym (dues_rest (c.self.inside.clock + 1) c.self.inside.image.now.machine.processors) ∙ sym (ap (dues_of (c.self.inside.clock + 1)) (rest_all g d));
-      able_is = λ p. c.see_all.ensures.able p ∙ starts_standing (code_at c.self.inside.image.now c.args.next) (new_state g c) c.deref.result.now (sym (ap (map processor_of) c.deref.ensures.value)) p;
+      able_is = λ p. c.see_members.ensures.sees.able_has p ∙ starts_standing (code_at c.self.inside.image.now c.args.next) (new_state g c) c.deref.result.now (sym (ap (map processor_of) c.deref.ensures.value)) p;
     }
 
 pub returns-clause-effect : goal.returns-clause-effect

@@ -134,14 +134,14 @@ effect : (g : given.Over) (c : After-finish_event g) → new_state g c ≡ then 
 unfolding freed_actors
 effect g c =
     let d = before g c in
-    finish_state (facts g d) c.in-Runs.until c.in-Runs.number c.in-Runs.count c.in-Runs.first c.in-Runs.second (works g d) (tuple_of g d) (tuple_is g d) (new_state g c) refl refl (processors_then g d) c.see.ensures.fired (world_is g c)
+    finish_state (facts g d) c.in-Runs.until c.in-Runs.number c.in-Runs.count c.in-Runs.first c.in-Runs.second (works g d) (tuple_of g d) (tuple_is g d) (new_state g c) refl refl (processors_then g d) c.see.ensures.unit.fired (world_is g c)
 
 pub invariant_of-self : goal.invariant_of-self
 unfolding freed_actors
 invariant_of-self g c =
     let d = before g c in
     record {
-      kept = finish_kept (facts g d) (new_state g c) c.see.new.told (g.U.BarrierUnit.capacity c.see.new.unit) (g.U.BarrierUnit.queue c.see.new.unit) (g.U.BarrierUnit.waiting c.see.new.unit) (effect g c) c.see.ensures.capacity c.see.ensures.masks c.see.ensures.told (finish_told (facts g d) c.index-actor.result.now.place c.stream.result.now c.see.new.told (place_is g d) c.stream.ensures c.see.ensures.bits);
+      kept = finish_kept (facts g d) (new_state g c) c.see.new.told (g.U.BarrierUnit.capacity c.see.new.unit) (g.U.BarrierUnit.queue c.see.new.unit) (g.U.BarrierUnit.waiting c.see.new.unit) (effect g c) c.see.ensures.unit.capacity c.see.ensures.unit.masks c.see.ensures.told (finish_told (facts g d) c.index-actor.result.now.place c.stream.result.now c.see.new.told (place_is g d) c.stream.ensures c.see.ensures.bits);
       agenda_is = finish_dues (facts g d) c.self.inside.agenda c.pop.new.self c.self.invariant.agenda_is c.pop.ensures (new_state g c) (effect g c);
       able_is = finish_able (facts g d) c.index-actor.result.now.place c.stream.result.now c.self.inside.able c.see.new.able (place_is g d) c.stream.ensures c.see.ensures.able c.self.invariant.able_is (new_state g c) (effect g c);
     }

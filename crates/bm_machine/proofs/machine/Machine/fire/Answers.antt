@@ -1,5 +1,5 @@
 use Rattle.std.proofs.Common.{◌≡◌, ℕ, ◌+◌, ◌<◌, ◌≤◌, true, false, not, ◌&&◌, List, ◌++◌, slice_get, drop, length, take, get_or, map, Some, None, refl, sym, ap, ◌∙◌, subst, arith}
-use Rattle.std.proofs.lemmas.List.{take_at, get_or_read}
+use Rattle.std.proofs.lemmas.List.{take_at, get_or_read, length-map}
 use Rattle.std.proofs.lemmas.Option.{get_or_from_slice_get, slice_get_within}
 use Rattle.bm_base.specs.Mask.{has_bit}
 use Rattle.tuple_ir.specs.declared.event.Event.TheVariants.{Fired}
@@ -15,6 +15,7 @@ use Rattle.unit_law.specs.Sound.{IsSound}
 use Rattle.bm_machine.specs.Shown.{mode_of, processor_of, standing_at, due_of, able_agrees}
 use Rattle.bm_machine.proofs.Running.{starts_standing}
 use Rattle.bm_machine.specs.Moves.{fires}
+use Rattle.bm_machine.proofs.Dues.{dues_long}
 use Rattle.bm_machine.proofs.Moved.{lawful_of}
 use Rattle.bm_machine.proofs.WithinBlock.{waits_standing, actor_at, kept_agrees}
 use Rattle.bm_machine.proofs.Finished.{state_is}
@@ -71,6 +72,9 @@ pass-requires-clause-short g c = λ p a at has.
 long : (g : given.Over) (c : After-deref_mut g) → length (map processor_of c.self.inside.actors.items) ≡ c.self.inside.image.now.machine.processors
 long g c = fire_long (facts g c)
 
+pub pass-requires-clause-members : goal.pass-requires-clause-members
+pass-requires-clause-members g c = λ p h. let x = fire_members (facts g c) p (subst (λ k. has_bit k p ≡ true) (mask_is g c) h) in omega (arith, x, long g c, length-map c.self.inside.actors.items processor_of, ap length c.deref_mut.ensures.value)
+
 until_is : (g : given.Over) (c : After-deref_mut g) → c.self.inside.clock + c.from.result ≡ c.self.inside.clock + c.self.inside.image.now.machine.delay
 until_is g c = omega (arith, c.from.ensures, c.barrier.ensures.value, ap (λ m. m.delay) c.spec.ensures)
 
@@ -93,6 +97,11 @@ pub hold-requires-clause-new : goal.hold-requires-clause-new
 hold-requires-clause-new g c =
     let d = (goal.at.hold-requires-clause-new g c).After-deref_mut in
     λ p h. fire_none (facts g d) c.self.inside.agenda c.self.invariant.agenda_is p (subst (λ k. has_bit k p ≡ true) (mask_is g d) h)
+
+pub hold-requires-clause-members : goal.hold-requires-clause-members
+hold-requires-clause-members g c =
+    let d = (goal.at.hold-requires-clause-members g c).After-deref_mut in
+    λ p h. let x = fire_members (facts g d) p (subst (λ k. has_bit k p ≡ true) (mask_is g d) h) in omega (arith, x, long g d, ap length c.self.invariant.agenda_is, dues_long c.self.inside.clock (map processor_of c.self.inside.actors.items))
 
 pub see_members-requires-clause-members : goal.see_members-requires-clause-members
 see_members-requires-clause-members g c =
@@ -137,16 +146,16 @@ before g c = (goal.at.invariant_of-self-2 g c).After-deref_mut
 effect : (g : given.Over) (c : After-see_members g) → new_state g c ≡ then g (before g c)
 effect g c =
     let d = before g c in
-    state_is (new_state g c) (then g d) refl refl (ap (map processor_of) (kept_actors g ((goal.at.invariant_of-self-2 g c).After-deref)) ∙ processors_then g d c.pass.new.actors c.pass.ensures) (c.see_members.ensures.fired ∙ c.pick.ensures.fired ∙ ap (fired_after (g.U.BarrierUnit.fired c.self.inside.unit)) c.in_ok-j.was) refl
+    state_is (new_state g c) (then g d) refl refl (ap (map processor_of) (kept_actors g ((goal.at.invariant_of-self-2 g c).After-deref)) ∙ processors_then g d c.pass.new.actors c.pass.ensures) (c.see_members.ensures.unit.fired ∙ c.pick.ensures.fired ∙ ap (fired_after (g.U.BarrierUnit.fired c.self.inside.unit)) c.in_ok-j.was) refl
 
 pub invariant_of-self-2 : goal.invariant_of-self-2
 invariant_of-self-2 g c =
     let d = before g c in
     let e = (goal.at.invariant_of-self-2 g c).After-deref in
     record {
-      kept = fire_kept (facts g d) (new_state g c) c.see_members.new.told (g.U.BarrierUnit.capacity c.see_members.new.unit) (g.U.BarrierUnit.queue c.see_members.new.unit) (g.U.BarrierUnit.waiting c.see_members.new.unit) (effect g c) (c.see_members.ensures.capacity ∙ c.pick.ensures.capacity) (c.see_members.ensures.masks ∙ c.pick.ensures.masks) c.see_members.ensures.told (λ q. c.see_members.ensures.bits q ∙ wait_then g e d (processors_then g d c.pass.new.actors c.pass.ensures) q);
+      kept = fire_kept (facts g d) (new_state g c) c.see_members.new.told (g.U.BarrierUnit.capacity c.see_members.new.unit) (g.U.BarrierUnit.queue c.see_members.new.unit) (g.U.BarrierUnit.waiting c.see_members.new.unit) (effect g c) (c.see_members.ensures.unit.capacity ∙ c.pick.ensures.capacity) (c.see_members.ensures.unit.masks ∙ c.pick.ensures.masks) c.see_members.ensures.sees.told_is (λ q. c.see_members.ensures.sees.told_has q ∙ wait_then g e d (processors_then g d c.pass.new.actors c.pass.ensures) q);
       agenda_is = fire_dues (facts g d) c.self.inside.agenda c.hold.new.agenda c.self.invariant.agenda_is c.hold.ensures.long (λ p lt h. c.hold.ensures.held p lt (subst (λ k. has_bit k p ≡ true) (sym (mask_is g d)) h) ∙ ap (λ u. due_of c.self.inside.clock (Held u)) (until_is g d)) (λ p h. c.hold.ensures.other p (subst (λ k. has_bit k p ≡ false) (sym (mask_is g d)) h)) (new_state g c) (effect g c);
-      able_is = subst (λ mode. able_agrees c.self.inside.image.now (new_state g c) mode c.see_members.new.able) (sym (within g d)) (λ p. c.see_members.ensures.able p ∙ starts_standing (code_at c.self.inside.image.now c.args.block) (new_state g c) e.deref.result.now (sym (ap (map processor_of) e.deref.ensures.value)) p);
+      able_is = subst (λ mode. able_agrees c.self.inside.image.now (new_state g c) mode c.see_members.new.able) (sym (within g d)) (λ p. c.see_members.ensures.sees.able_has p ∙ starts_standing (code_at c.self.inside.image.now c.args.block) (new_state g c) e.deref.result.now (sym (ap (map processor_of) e.deref.ensures.value)) p);
     }
 
 pub returns-clause-fires : goal.returns-clause-fires

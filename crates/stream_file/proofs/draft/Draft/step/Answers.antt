@@ -1,4 +1,5 @@
 use Rattle.std.proofs.Common.{◌≡◌, ℕ, sym, subst, ap, ◌∙◌, Option, Some, Result, Ok, Err, List}
+use Rattle.std.proofs.lemmas.Result.{err_from_is_err_and}
 use Rattle.stream_file.specs.declared.draft.Draft as code
 use Rattle.stream_file.specs.declared.draft.BlockDraft.{BlockDraft}
 use Rattle.stream_file.specs.declared.fault.StepFault.{StepFault}
@@ -51,5 +52,7 @@ returns-in-Streams c = λ bs e. alone_takes (spec.step (drafted bs c.args.self.n
 pub returns-in-Ends : goal.returns-in-Ends
 returns-in-Ends c = λ bs e. alone_takes (spec.step (drafted bs c.args.self.now) (row c.args.line)) bs c.take_end.new.self c.take_end.result c.alone-in-Ends.result (spec.take_end (drafted bs c.args.self.now)) (ap (λ (l : Line). spec.step (drafted bs c.args.self.now) (row l)) c.in-Ends.is) c.alone-in-Ends.ensures (c.take_end.ensures bs)
 
-pub returns-in-Err : goal.returns-in-Err
-returns-in-Err c = λ bs e. fault_takes (spec.step (drafted bs c.args.self.now) (row c.args.line)) (spec.take_next c.in-Follows.next (drafted bs c.args.self.now)) (λ (b : BlockDraft). drafted (with_block bs (Some b)) c.take_next.new.self) (λ (ended : Option BlockDraft). drafted (with_block bs ended) c.take_next.new.self) c.in-Err.fault (ap (λ (l : Line). spec.step (drafted bs c.args.self.now) (row l)) c.in-Follows.is) (c.in-Err.ensures bs)
+pub returns-in_err-take_next-in-Follows : goal.returns-in_err-take_next-in-Follows
+returns-in_err-take_next-in-Follows c = λ bs e.
+    let p = err_from_is_err_and c.from_residual.result c.from_residual.ensures.1 in
+    rw (p.1, p.2) (fault_takes (spec.step (drafted bs c.args.self.now) (row c.args.line)) (spec.take_next c.in-Follows.next (drafted bs c.args.self.now)) (λ (b : BlockDraft). drafted (with_block bs (Some b)) c.take_next.new.self) (λ (ended : Option BlockDraft). drafted (with_block bs ended) c.take_next.new.self) c.in_err-take_next-in-Follows.field-0.0 (ap (λ (l : Line). spec.step (drafted bs c.args.self.now) (row l)) c.in-Follows.is) (c.in_err-take_next-in-Follows.ensures bs))
