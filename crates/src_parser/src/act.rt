@@ -176,7 +176,10 @@ fn after(stmt: Stmt, action: Action) -> Action
     match action {
         Action::Go(mode) => Action::FinishGo(stmt, mode),
         Action::Close => Action::FinishClose(stmt),
-        _ => Action::Refuse,
+        action => {
+            drop((stmt, action));
+            Action::Refuse
+        }
     }
 }
 

@@ -32,6 +32,13 @@ fn closed_body(open: OpenBody, body: Items<Stmt>) -> Result<(Items<Stmt>, Mode),
     }
 }
 
+/// What stood before the next token is dropped by a call: in place, a check takes each of its kinds apart.
+fn go(state: &mut State, mode: Mode)
+    ensures { state.new ≡ record state.old { mode = mode } }
+{
+    drop(mem::replace(&mut state.mode, mode));
+}
+
 fn close(alloc: Global, state: &mut State) -> Result<bool, AllocError>
     ensures { IfOk result (λ went. spec.close state.old state.old.bodies ≡ (if went then Some state.new else None)) }
 {
@@ -41,7 +48,7 @@ fn close(alloc: Global, state: &mut State) -> Result<bool, AllocError>
             let body = mem::replace(&mut state.body, Items::new(alloc));
             let (body, mode) = closed_body(open, body)?;
             state.body = body;
-            state.mode = mode;
+            go(state, mode);
             Ok(true)
         }
     }
@@ -51,24 +58,19 @@ fn begin(state: &mut State, mode: Mode) -> bool
     ensures { spec.begin state.old mode state.old.bodies state.old.body ≡ (if result then Some state.new else None) }
 {
     if state.bodies.is_empty() && state.body.is_empty() {
-        state.mode = mode;
+        go(state, mode);
         true
     } else {
+        drop(mode);
         false
     }
-}
-
-fn go(state: &mut State, mode: Mode)
-    ensures { state.new ≡ record state.old { mode = mode } }
-{
-    state.mode = mode;
 }
 
 fn declare(state: &mut State, decl: Decl) -> Result<(), AllocError>
     ensures { OnOk result (state.new ≡ record state.old { decls = state.old.decls ++ decl ∷ []; mode = Mode.Item }) }
 {
     state.decls.push(decl)?;
-    state.mode = Mode::Item;
+    go(state, Mode::Item);
     Ok(())
 }
 
@@ -76,7 +78,7 @@ fn add(state: &mut State, stmt: Stmt) -> Result<(), AllocError>
     ensures { OnOk result (state.new ≡ spec.behind state.old stmt) }
 {
     state.body.push(stmt)?;
-    state.mode = Mode::Item;
+    go(state, Mode::Item);
     Ok(())
 }
 
@@ -85,16 +87,16 @@ fn open_body(alloc: Global, state: &mut State, head: Head) -> Result<(), AllocEr
 {
     let before = mem::replace(&mut state.body, Items::new(alloc));
     state.bodies.push(OpenBody { before, head })?;
-    state.mode = Mode::Item;
+    go(state, Mode::Item);
     Ok(())
 }
 
 fn add_and_go(state: &mut State, stmt: Stmt, mode: Mode) -> Result<(), AllocError>
     ensures { OnOk result (Some state.new ≡ spec.apply state.old (Action.FinishGo stmt mode)) }
 {
-    add(state, stmt)?;
+    let added = add(state, stmt);
     go(state, mode);
-    Ok(())
+    added
 }
 
 fn add_and_close(alloc: Global, state: &mut State, stmt: Stmt) -> Result<bool, AllocError>

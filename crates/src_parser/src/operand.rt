@@ -85,13 +85,34 @@ fn reduce(
             if least <= level(op) {
                 reduce(alloc, least, parts, two(alloc, op, left, value)?)
             } else {
-                parts.push(Part::Binary { op, left })?;
-                Ok((parts, value))
+                match parts.push(Part::Binary { op, left }) {
+                    Ok(()) => Ok((parts, value)),
+                    Err(fault) => {
+                        drop((parts, value));
+                        Err(fault)
+                    }
+                }
             }
         }
-        Some(part) => {
-            parts.push(part)?;
-            Ok((parts, value))
+        Some(part) => match parts.push(part) {
+            Ok(()) => Ok((parts, value)),
+            Err(fault) => {
+                drop((parts, value));
+                Err(fault)
+            }
+        },
+    }
+}
+
+/// A part is open, and an operand must begin.
+fn begin_part(goal: Goal, mut parts: Stack<Part>, part: Part) -> Result<Action, AllocError>
+    ensures { IfOk result (λ r. r ≡ Action.Go (Mode.Operand goal (part ∷ parts))) }
+{
+    match parts.push(part) {
+        Ok(()) => Ok(Action::Go(Mode::Operand { goal, parts })),
+        Err(fault) => {
+            drop((goal, parts));
+            Err(fault)
         }
     }
 }
@@ -100,7 +121,7 @@ pub fn operand_at(
     alloc: Global,
     src: &[u8],
     goal: Goal,
-    mut parts: Stack<Part>,
+    parts: Stack<Part>,
     token: Token,
 ) -> Result<Action, AllocError>
     requires low { token.at ≤ token.end }
@@ -113,24 +134,20 @@ pub fn operand_at(
             parts,
             value: Expr::Number { value },
         })),
-        TokenKind::Name => Ok(Action::Go(Mode::Named {
-            goal,
-            parts,
-            name: ident(alloc, src, token)?,
-        })),
-        TokenKind::Sym(Symbol::LParen) => {
-            parts.push(Part::Paren)?;
-            Ok(Action::Go(Mode::Operand { goal, parts }))
+        TokenKind::Name => match ident(alloc, src, token) {
+            Ok(name) => Ok(Action::Go(Mode::Named { goal, parts, name })),
+            Err(fault) => {
+                drop((goal, parts));
+                Err(fault)
+            }
+        },
+        TokenKind::Sym(Symbol::LParen) => begin_part(goal, parts, Part::Paren),
+        TokenKind::Sym(Symbol::Sub) => begin_part(goal, parts, Part::Unary { op: Un::Neg }),
+        TokenKind::Sym(Symbol::Not) => begin_part(goal, parts, Part::Unary { op: Un::Not }),
+        _ => {
+            drop((goal, parts));
+            Ok(Action::Refuse)
         }
-        TokenKind::Sym(Symbol::Sub) => {
-            parts.push(Part::Unary { op: Un::Neg })?;
-            Ok(Action::Go(Mode::Operand { goal, parts }))
-        }
-        TokenKind::Sym(Symbol::Not) => {
-            parts.push(Part::Unary { op: Un::Not })?;
-            Ok(Action::Go(Mode::Operand { goal, parts }))
-        }
-        _ => Ok(Action::Refuse),
     }
 }
 
@@ -140,7 +157,10 @@ fn finished(stmt: Stmt, symbol: Symbol) -> Action
 {
     match symbol {
         Symbol::Semi => Action::Finish(stmt),
-        _ => Action::Refuse,
+        _ => {
+            drop(stmt);
+            Action::Refuse
+        }
     }
 }
 
@@ -149,7 +169,10 @@ fn indexed(name: Ident, index: Expr, symbol: Symbol) -> Action
 {
     match symbol {
         Symbol::RBracket => Action::Go(Mode::Target { name, index }),
-        _ => Action::Refuse,
+        _ => {
+            drop((name, index));
+            Action::Refuse
+        }
     }
 }
 
@@ -158,7 +181,10 @@ fn opened(head: Head, symbol: Symbol) -> Action
 {
     match symbol {
         Symbol::LBrace => Action::Open(head),
-        _ => Action::Refuse,
+        _ => {
+            drop(head);
+            Action::Refuse
+        }
     }
 }
 
@@ -181,7 +207,10 @@ fn closes_paren(goal: Goal, parts: Stack<Part>, value: Expr, symbol: Symbol) -> 
 {
     match symbol {
         Symbol::RParen => Action::Go(Mode::Value { goal, parts, value }),
-        _ => Action::Refuse,
+        _ => {
+            drop((goal, parts, value));
+            Action::Refuse
+        }
     }
 }
 
@@ -190,7 +219,10 @@ fn closes_index(goal: Goal, parts: Stack<Part>, value: Expr, symbol: Symbol) -> 
 {
     match symbol {
         Symbol::RBracket => Action::Go(Mode::Value { goal, parts, value }),
-        _ => Action::Refuse,
+        _ => {
+            drop((goal, parts, value));
+            Action::Refuse
+        }
     }
 }
 
@@ -216,11 +248,22 @@ fn closed(
     match parts.pop() {
         None => Ok(ended(goal, value, symbol)),
         Some(Part::Paren) => Ok(closes_paren(goal, parts, value, symbol)),
-        Some(Part::Index { name }) => {
-            Ok(closes_index(goal, parts, element(alloc, name, value)?, symbol))
+        Some(Part::Index { name }) => match element(alloc, name, value) {
+            Ok(value) => Ok(closes_index(goal, parts, value, symbol)),
+            Err(fault) => {
+                drop((goal, parts));
+                Err(fault)
+            }
+        },
+        Some(Part::Unary { op: _ }) => {
+            drop((goal, parts, value));
+            Ok(Action::Refuse)
         }
-        Some(Part::Unary { .. }) => Ok(Action::Refuse),
-        Some(Part::Binary { .. }) => Ok(Action::Refuse),
+        Some(Part::Binary { op: _, left }) => {
+            drop(left);
+            drop((goal, parts, value));
+            Ok(Action::Refuse)
+        }
     }
 }
 
@@ -234,18 +277,24 @@ pub fn value_at(
     ensures { IfOk result (λ r. r ≡ spec.value_at goal parts value kind) }
 {
     let TokenKind::Sym(symbol) = kind else {
+        drop((goal, parts, value));
         return Ok(Action::Refuse);
     };
     match binary(symbol) {
-        Some(op) => {
-            let (mut parts, left) = reduce(alloc, level(op), parts, value)?;
-            parts.push(Part::Binary { op, left })?;
-            Ok(Action::Go(Mode::Operand { goal, parts }))
-        }
-        None => {
-            let (parts, value) = reduce(alloc, 0, parts, value)?;
-            closed(alloc, goal, parts, value, symbol)
-        }
+        Some(op) => match reduce(alloc, level(op), parts, value) {
+            Ok((parts, left)) => begin_part(goal, parts, Part::Binary { op, left }),
+            Err(fault) => {
+                drop(goal);
+                Err(fault)
+            }
+        },
+        None => match reduce(alloc, 0, parts, value) {
+            Ok((parts, value)) => closed(alloc, goal, parts, value, symbol),
+            Err(fault) => {
+                drop(goal);
+                Err(fault)
+            }
+        },
     }
 }
 
@@ -261,15 +310,14 @@ fn is_bracket(kind: TokenKind) -> bool
 pub fn named_at(
     alloc: Global,
     goal: Goal,
-    mut parts: Stack<Part>,
+    parts: Stack<Part>,
     name: Ident,
     kind: TokenKind,
 ) -> Result<Action, AllocError>
     ensures { IfOk result (λ r. r ≡ spec.named_at goal parts name kind) }
 {
     if is_bracket(kind) {
-        parts.push(Part::Index { name })?;
-        return Ok(Action::Go(Mode::Operand { goal, parts }));
+        return begin_part(goal, parts, Part::Index { name });
     }
     value_at(alloc, goal, parts, Expr::Var { name }, kind)
 }

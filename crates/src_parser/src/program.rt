@@ -135,7 +135,10 @@ fn last(
             let no = Items::new(alloc);
             with_last(decls, body, Stmt::If { cond, yes, no })
         }
-        _ => Err(fault),
+        mode => {
+            drop((decls, body, mode));
+            Err(fault)
+        }
     }
 }
 
@@ -153,6 +156,7 @@ fn finish(alloc: Global, state: State, fault: ParseFault) -> Result<Program, Par
     if bodies.is_empty() {
         last(alloc, decls, body, mode, fault)
     } else {
+        drop((decls, body, mode));
         Err(fault)
     }
 }
@@ -182,7 +186,14 @@ pub fn parse(alloc: Global, src: &[u8], tokens: &[Token]) -> Result<Program, Par
     // Only for its contract.
     spelled_tokens_are_in_order();
     let mut state = start(alloc);
-    read(alloc, src, tokens, &mut state)?;
-    let fault = unfinished(src, &state.mode);
-    finish(alloc, state, fault)
+    match read(alloc, src, tokens, &mut state) {
+        Ok(()) => {
+            let fault = unfinished(src, &state.mode);
+            finish(alloc, state, fault)
+        }
+        Err(fault) => {
+            drop(state);
+            Err(fault)
+        }
+    }
 }
