@@ -26,6 +26,7 @@ pub fn read(alloc: Global, bytes: &[u8]) -> Result<Built, ReadFault>
     let mut count = 0;
     while let Some(line) = lines.next() {
         if !line.ended {
+            drop((draft, built));
             return Err(ReadFault::Text { line: line.number });
         }
         match draft.take_line(alloc, built.blocks, line.bytes) {
@@ -33,13 +34,21 @@ pub fn read(alloc: Global, bytes: &[u8]) -> Result<Built, ReadFault>
                 built = built.with(alloc, &draft, ended);
                 count = line.number;
             }
-            Err(StepFault::Refused) => return Err(ReadFault::Text { line: line.number }),
-            Err(StepFault::Memory) => return Err(ReadFault::Memory),
+            Err(StepFault::Refused) => {
+                drop((draft, built));
+                return Err(ReadFault::Text { line: line.number });
+            }
+            Err(StepFault::Memory) => {
+                drop((draft, built));
+                return Err(ReadFault::Memory);
+            }
         }
     }
     if draft.is_done() {
+        drop(draft);
         Ok(built)
     } else {
+        drop((draft, built));
         Err(ReadFault::Text { line: count + 1 })
     }
 }

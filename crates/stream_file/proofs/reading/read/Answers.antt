@@ -83,8 +83,8 @@ returns-then-is_done c =
     let ends = sym at.left ∙ lines_end c.loop-line.lines.count (drafted at.blocks c.loop-line.draft) c.loop-line.lines.rest c.in_default.ensures.line in
     read_as c.args.bytes.now at.blocks c.loop-line.draft c.loop-line.built c.loop-line.lines.count ends (sym c.is_done.ensures ∙ c.if-is_done.true) at.builds
 
-pub returns : goal.returns
-returns c =
+pub returns-else-is_done : goal.returns-else-is_done
+returns-else-is_done c =
     let at = c.loop-line.invariant in
     let ends = sym at.left ∙ lines_end c.loop-line.lines.count (drafted at.blocks c.loop-line.draft) c.loop-line.lines.rest c.in_default.ensures.line in
     subst (λ (n : ℕ). IsFirstWrong c.args.bytes.now (n + 1)) (sym at.counted) (read_short c.args.bytes.now at.blocks c.loop-line.draft c.loop-line.lines.count ends (sym c.is_done.ensures ∙ c.if-is_done.false))
