@@ -1,12 +1,24 @@
 # Completion of bmimd's words for bash: source this file.
+# One of these words, or file: and a file. The shell splits words at a colon, so what stands before it is taken off again.
 _bmimd_or_file() {
-  case $2 in
-    file:*) mapfile -t COMPREPLY < <(compgen -f -- "${2#file:}") ;;
-    *) mapfile -t COMPREPLY < <(compgen -W "$1 file:" -- "$2") ;;
+  local word=$2 front=
+  case $word in
+    file:*)
+      [[ $COMP_WORDBREAKS == *:* ]] || front=file:
+      mapfile -t COMPREPLY < <(compgen -f -- "${word#file:}")
+      COMPREPLY=("${COMPREPLY[@]/#/$front}") ;;
+    seed:*) COMPREPLY=() ;;
+    *)
+      mapfile -t COMPREPLY < <(compgen -W "$1 file:" -- "$word")
+      [[ ${COMPREPLY[0]:-} == *: ]] && compopt -o nospace ;;
   esac
 }
 _bmimd() {
-  local word=${COMP_WORDS[COMP_CWORD]} place=$COMP_CWORD command=${COMP_WORDS[1]:-}
+  local line=${COMP_LINE:0:COMP_POINT} word= words=() place command
+  # the words between blanks, whatever the shell splits them at
+  read -ra words <<<"$line"
+  [[ $line == *[[:blank:]] ]] && words+=("")
+  place=$((${#words[@]} - 1)) word=${words[-1]} command=${words[1]:-}
   COMPREPLY=()
   if [ "$place" -eq 1 ]; then
     mapfile -t COMPREPLY < <(compgen -W "eval go compile show run trace check soak" -- "$word")

@@ -1,5 +1,9 @@
-" Syntax of bmimd's programs for Vim: put it into ~/.vim/syntax/ and add
-"   autocmd BufNewFile,BufRead *.bm setfiletype bmimd
+" Bmimd's programs for Vim, type and syntax: this file goes into ~/.vim/syntax/, and a copy of it into ~/.vim/ftdetect/
+" (extras/install does both).
+if expand("<sfile>:p:h:t") ==# "ftdetect"
+  autocmd BufNewFile,BufRead *.bm set filetype=bmimd
+  finish
+endif
 if exists("b:current_syntax")
   finish
 endif

@@ -10,6 +10,3 @@ mod order;
 
 pub use insertion::insert;
 pub use laws::laws_of_insertion;
-
-#[cfg(test)]
-mod tests;

@@ -34,6 +34,3 @@ pub use spec::{Class, Interval, Spec};
 pub use store::{Store, laws_of_memories};
 pub use strict::{laws_of_strict_numbers, strict_count, strict_number};
 pub use word::{Bin, Un, apply1, apply2, laws_of_words};
-
-#[cfg(test)]
-mod tests;

@@ -7,7 +7,7 @@ use Rattle.bm_course.specs.Seen.{Seen}
 use Rattle.bm_course.specs.Goes.{Goes}
 use Rattle.bm_course.specs.Answers.{Answers}
 use Rattle.bm_course.proofs.Settling.{settles_refusal, settles_product}
-use Rattle.bm_course.proofs.Statuses.{Outcome, outcome, ended_only, refused_only, unread_only, unwritten_only, starved_only, some_status, faultless}
+use Rattle.bm_course.proofs.Statuses.{Outcome, outcome, ended_only, refused_only, unread_only, unwritten_only, starved_only, some_status, tells, faultless}
 
 module _ (before now : Seen) (course : Course Product) (status : ℕ) (d : IsDetermined course) (b : Bounds (λ r. IsRefusal r.status) (λ p. HasEnded p.text.status) course) where
   pub answered : Goes before now course status → Answers before now course status
@@ -23,5 +23,6 @@ module _ (before now : Seen) (course : Course Product) (status : ℕ) (d : IsDet
         unwritten = unwritten_only before now course status b h;
         starved = starved_only before now course status b h;
         status_is = some_status before now course status b h;
+        tells = tells before now course status b g;
         faultless = λ files out err. faultless before now course status b files out err h;
       }

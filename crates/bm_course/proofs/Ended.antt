@@ -1,9 +1,9 @@
 -- From the end of a command to the end of the call.
-use Rattle.std.proofs.Common.{◌≡◌, ℕ, List, [], Ok, Err, refl, sym, ap, subst, inl, inr, arith}
-use Rattle.bm_course.specs.Course.{Product, Gives, Course}
+use Rattle.std.proofs.Common.{◌≡◌, ◌≤◌, ℕ, List, [], Ok, Err, refl, sym, ap, subst, inl, inr, arith}
+use Rattle.bm_course.specs.Course.{Refused, Product, Gives, Course}
 use Rattle.bm_course.specs.Lines.{cannot_write_file}
 use Rattle.bm_course.specs.Seen.{FilesSeen, SinkSeen, Untouched, together}
-use Rattle.bm_course.specs.Goes.{Reported, to_read, to_write, Meets, refused, unread, unwritten_file, unwritten, starved, starved_writing, Ending, done, told, Goes}
+use Rattle.bm_course.specs.Goes.{ReportedOrStarved, Reported, to_read, to_write, Meets, refused, unread, unwritten_file, unwritten, starved, starved_writing, Ending, done, told, Goes}
 use Rattle.bm_course.specs.Ends.{StopsReading, EndsWriting, EndsCommand, stops, writes, Concludes}
 use Rattle.bm_course.specs.Refusals.{stopped_as}
 use Rattle.bm_course.specs.declared.refusal.Stop.{Stop}
@@ -52,13 +52,17 @@ Goes-done f g o p e course status h = record {
   later = record { files = h.later; out = h.out_later; err = omega arith };
 }
 
+later_of : {e n : SinkSeen} {r : Refused} {status : ℕ} → ReportedOrStarved e n r status → e.faults ≤ n.faults
+later_of (inl k) = k.later
+later_of (inr k) = k.later
+
 -- one that is stopped is reported
-pub Goes-stopped : (f g : FilesSeen) (o p e n : SinkSeen) (course : Course Product) (stop : Stop) (status : ℕ) → Concludes f g o p course (Err stop) → Reported e n (stopped_as stop) status
+pub Goes-stopped : (f g : FilesSeen) (o p e n : SinkSeen) (course : Course Product) (stop : Stop) (status : ℕ) → Concludes f g o p course (Err stop) → ReportedOrStarved e n (stopped_as stop) status
     → Goes (together f o e) (together g p n) course status
 Goes-stopped f g o p e n course stop status h k = record {
   contents = h.contents;
   names = h.names;
   reading = h.reading;
   ending = told (stopped_as stop) (stopped f g o p e course h.contents h.names n stop h.ends) k;
-  later = record { files = h.later; out = h.out_later; err = k.later };
+  later = record { files = h.later; out = h.out_later; err = later_of k };
 }

@@ -8,7 +8,7 @@ use Rattle.bm_course.specs.Course.{Refused, Product, Course, refuse, IsReading}
 use Rattle.bm_course.specs.Lines.{no_memory}
 use Rattle.bm_course.specs.Laws.{Bounds}
 use Rattle.bm_course.specs.Seen.{Seen}
-use Rattle.bm_course.specs.Goes.{TakesLine, Told, whole, part, nothing, to_read, to_write, Meets, refused, unread, unwritten_file, unwritten, starved, starved_writing, Ending, done, told, Goes}
+use Rattle.bm_course.specs.Goes.{TakesLine, WritesOnce, Told, whole, part, nothing, to_read, to_write, Meets, refused, unread, unwritten_file, unwritten, starved, starved_writing, Ending, done, told, Goes}
 use Rattle.bm_course.specs.Clauses.{HasWritten, IsRefused, IsUnread, IsUnwritten, IsStarved, Reports, StopsAtOnce}
 
 -- how a call went, by its status
@@ -48,20 +48,30 @@ module _ (before now : Seen) (course : Course Product) (status : ℕ) where
         was_unwritten (record { contents = contents; names = names; reading = reading; refusal = r; meets = unwritten p g h a f k; err = inl (s, t) }) (q ∙ s)
     by_whole (starved a o k) q t =
         let s : r.status ≡ 11 = ap (λ x. x.status) k in
-        was_starved (record { contents = contents; names = names; reading = reading; refusal = r; meets = starved a o k; err = inl (s, t) }) (q ∙ s)
+        was_starved (record { contents = contents; names = names; reading = reading; refusal = r; meets = starved a o k; err = inl (subst (λ x. TakesLine before.err.taken now.err.taken x.line) k t) }) (q ∙ s)
     by_whole (starved_writing p g h a k) q t =
         let s : r.status ≡ 11 = ap (λ x. x.status) k in
-        was_starved (record { contents = contents; names = names; reading = reading; refusal = r; meets = starved_writing p g h a k; err = inl (s, t) }) (q ∙ s)
+        was_starved (record { contents = contents; names = names; reading = reading; refusal = r; meets = starved_writing p g h a k; err = inl (subst (λ x. TakesLine before.err.taken now.err.taken x.line) k t) }) (q ∙ s)
 
     by_report : Meets before now course contents names r → Told before.err now.err r status → Outcome before now course status
     by_report m (whole t q) = by_whole m q t
-    by_report m (part t f q) = was_unwritten (record { contents = contents; names = names; reading = reading; refusal = r; meets = m; err = inr (t, f) }) q
+    by_report m (part t f q) = was_unwritten (record { contents = contents; names = names; reading = reading; refusal = r; meets = m; err = inr (inl (t, f)) }) q
     by_report m (nothing t q) = was_starved (record { contents = contents; names = names; reading = reading; refusal = r; meets = m; err = inr t }) q
+
+    -- want of memory for its line was told in its place
+    by_starving : Meets before now course contents names r → Told before.err now.err no_memory status → Outcome before now course status
+    by_starving m (whole t q) = was_starved (record { contents = contents; names = names; reading = reading; refusal = r; meets = m; err = inl t }) q
+    by_starving m (part t f q) = was_unwritten (record { contents = contents; names = names; reading = reading; refusal = r; meets = m; err = inr (inr (t, f)) }) q
+    by_starving m (nothing t q) = was_starved (record { contents = contents; names = names; reading = reading; refusal = r; meets = m; err = inr t }) q
+
+    by_either : Meets before now course contents names r → Reports before now r status → Outcome before now course status
+    by_either m (inl k) = by_report m k.line
+    by_either m (inr k) = by_starving m k.line
 
   by_ending : (contents names : List (List ℕ)) → IsReading before.files.held course contents names → Ending before now course contents names status → Outcome before now course status
   by_ending contents names reading (done p g s t n k) =
       was_written (record { contents = contents; names = names; reading = reading; product = p; gives = g; files = s; out = t; err = n; status_is = k })
-  by_ending contents names reading (told r m k) = by_report contents names reading r m k.line
+  by_ending contents names reading (told r m k) = by_either contents names reading r m k
 
   pub outcome : Goes before now course status → Outcome before now course status
   outcome h = by_ending h.contents h.names h.reading h.ending
@@ -146,6 +156,20 @@ module _ (before now : Seen) (course : Course Product) (status : ℕ) (b : Bound
   some_status (was_unwritten u e) = (OfWrite, of_write status e)
   some_status (was_starved u e) = (OfMemory, of_memory status e)
 
+  -- one line was sent to the errors
+  line_once : (r : Refused) → Told before.err now.err r status → WritesOnce before.err.taken now.err.taken
+  line_once r (whole t q) = ap (λ x. x.writes) t
+  line_once r (part t f q) = ap (λ x. x.writes) t.taken
+  line_once r (nothing t q) = ap (λ x. x.writes) t
+
+  sent_once : (contents names : List (List ℕ)) → Ending before now course contents names status → (HasEnded status → ⊥) → WritesOnce before.err.taken now.err.taken
+  sent_once contents names (done p g s t n k) h = absurd (h (subst HasEnded (sym k) (b.gives contents [] p g)))
+  sent_once contents names (told r m (inl k)) h = line_once r k.line
+  sent_once contents names (told r m (inr k)) h = line_once no_memory k.line
+
+  pub tells : Goes before now course status → (HasEnded status → ⊥) → WritesOnce before.err.taken now.err.taken
+  tells g = sent_once g.contents g.names g.ending
+
   module _ (files : Rose before.files.faults now.files.faults → ⊥) (out : Rose before.out.faults now.out.faults → ⊥) (err : Rose before.err.faults now.err.faults → ⊥) where
     -- a write that failed shows in a count
     shows : (contents names : List (List ℕ)) (r : Refused) → Meets before now course contents names r → r.status ≡ 10 → ⊥
@@ -156,11 +180,12 @@ module _ (before now : Seen) (course : Course Product) (status : ℕ) (b : Bound
     shows contents names r (starved a o k) s = let e : r.status ≡ 11 = ap (λ x. x.status) k in omega arith
     shows contents names r (starved_writing p g h a k) s = let e : r.status ≡ 11 = ap (λ x. x.status) k in omega arith
 
-    pub faultless : Outcome before now course status → HasWritten before now course status ⊎ IsRefused before now course status ⊎ (status ≡ 11)
-    faultless (was_written w) = inl w
-    faultless (was_refused r) = inr (inl r)
+    pub faultless : Outcome before now course status
+        → (HasEnded status × HasWritten before now course status) ⊎ (IsRefusal status × IsRefused before now course status) ⊎ (status ≡ 11)
+    faultless (was_written w) = inl (product_status w, w)
+    faultless (was_refused r) = inr (inl (refusal_status r, r))
     faultless (was_unread u k) = absurd (files u.rose)
-    faultless (was_unwritten u k) = elim u.err [ inl x ↦ absurd (shows u.contents u.names u.refusal u.meets x.0) | inr x ↦ absurd (err x.1) ]
+    faultless (was_unwritten u k) = elim u.err [ inl x ↦ absurd (shows u.contents u.names u.refusal u.meets x.0) | inr x ↦ elim x [ inl y ↦ absurd (err y.1) | inr y ↦ absurd (err y.1) ] ]
     faultless (was_starved u k) = inr (inr k)
 
 -- words that are refused at once

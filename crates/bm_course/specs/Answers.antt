@@ -6,7 +6,7 @@ use Rattle.bm_course.specs.declared.status.TheConstants.{UNREAD, UNWRITTEN, MEMO
 use Rattle.bm_course.specs.Status.{HasEnded, IsRefusal, IsStatus}
 use Rattle.bm_course.specs.Course.{Refused, Product, Refuses, Gives, Course}
 use Rattle.bm_course.specs.Seen.{Seen}
-use Rattle.bm_course.specs.Goes.{Goes}
+use Rattle.bm_course.specs.Goes.{Goes, WritesOnce}
 use Rattle.bm_course.specs.Clauses.{HasWritten, IsRefused, IsUnread, IsUnwritten, IsStarved, Leads, Refusing, Writing}
 
 pub record Answers (before now : Seen) (course : Course Product) (status : ℕ) : Type 0 where
@@ -24,7 +24,9 @@ pub record Answers (before now : Seen) (course : Course Product) (status : ℕ) 
   pub unwritten : status ≡ UNWRITTEN → IsUnwritten before now course
   pub starved : status ≡ MEMORY → IsStarved before now course
   pub status_is : IsStatus status
+  -- a call that has not ended so has written to the errors once
+  pub tells : ¬ HasEnded status → WritesOnce before.err.taken now.err.taken
   -- where no count of faults rose, the product was written, or what the words or the contents refuse was told, or there was no memory
   pub faultless : ¬ Rose before.files.faults now.files.faults → ¬ Rose before.out.faults now.out.faults
       → ¬ Rose before.err.faults now.err.faults
-      → HasWritten before now course status ⊎ IsRefused before now course status ⊎ (status ≡ MEMORY)
+      → (HasEnded status × HasWritten before now course status) ⊎ (IsRefusal status × IsRefused before now course status) ⊎ (status ≡ MEMORY)

@@ -12,10 +12,6 @@ use Rattle.bm_course.specs.Lines.{cannot_read, cannot_write_file, cannot_write, 
 abbrev pub TakesLine : Taken → Taken → List ℕ → Type 0
 TakesLine before now line = now ≡ written before line
 
--- nothing was taken: there was no write, or one that took nothing
-abbrev pub TakesNothing : Taken → Taken → Type 0
-TakesNothing before now = (now ≡ before) ⊎ (now ≡ tried before)
-
 -- there was one write
 abbrev pub WritesOnce : Taken → Taken → Type 0
 WritesOnce before now = now.writes ≡ next_call before.writes
@@ -26,13 +22,17 @@ pub data Told (before now : SinkSeen) (r : Refused) (status : ℕ) : Type 0 wher
   whole : TakesLine before.taken now.taken r.line → status ≡ r.status → Told before now r status
   -- the write failed, behind a prefix of the line
   part : TakesPrefix before.taken now.taken r.line → Rose before.faults now.faults → status ≡ UNWRITTEN → Told before now r status
-  -- there was no memory to make the line of its parts, or in the write
-  nothing : TakesNothing before.taken now.taken → status ≡ MEMORY → Told before now r status
+  -- the write found no memory, and took nothing
+  nothing : now.taken ≡ tried before.taken → status ≡ MEMORY → Told before now r status
 
 -- A refusal was told, and no count of faults fell.
 pub record Reported (before now : SinkSeen) (r : Refused) (status : ℕ) : Type 0 where
   pub line : Told before now r status
   pub later : before.faults ≤ now.faults
+
+-- The refusal was told; or there was no memory to make its line, and this was told in its place.
+abbrev pub ReportedOrStarved : SinkSeen → SinkSeen → Refused → ℕ → Type 0
+ReportedOrStarved before now r status = Reported before now r status ⊎ Reported before now no_memory status
 
 -- neither a held file nor the output was touched
 abbrev pub Rests : Seen → Seen → Type 0
@@ -73,8 +73,8 @@ pub data Ending (before now : Seen) (course : Course Product) (contents names : 
   done : (p : Product) → course contents (Gives p []) → Stands before.files now.files names p.file
       → Takes before.out.taken now.out.taken p.text.lines
       → now.err ≡ before.err → status ≡ p.text.status → Ending before now course contents names status
-  -- a refusal was met, and its line was sent
-  told : (r : Refused) → Meets before now course contents names r → Reported before.err now.err r status
+  -- a refusal was met, and its line was sent, or that of want of memory
+  told : (r : Refused) → Meets before now course contents names r → ReportedOrStarved before.err now.err r status
       → Ending before now course contents names status
 
 -- The contents were read from the files of these names, as the course asked, and so it ended.

@@ -24,21 +24,6 @@ stopped_as (UnwrittenFile name) = cannot_write_file name.now
 stopped_as Unwritten = cannot_write
 stopped_as Memory = no_memory
 
--- the line of a refusal quotes nothing, so no memory is needed to make it
-abbrev pub QuotesNothing : Refusal → Type 0
-QuotesNothing Usage = Unit {0}
-QuotesNothing (TooLong name len most) = ⊥
-QuotesNothing (Plain status line) = Unit {0}
-QuotesNothing (Quoting status before part after) = ⊥
-
--- the same of all that stops a command
-abbrev pub IsPlain : Stop → Type 0
-IsPlain (Refusing r) = QuotesNothing r
-IsPlain (Unread name) = ⊥
-IsPlain (UnwrittenFile name) = ⊥
-IsPlain Unwritten = Unit {0}
-IsPlain Memory = Unit {0}
-
 -- what a refused write of the text stops a command with
 abbrev pub stop_of : SinkFault → Stop
 stop_of sink.Failed = Unwritten

@@ -9,8 +9,6 @@ mod product;
 mod refusal;
 mod reporting;
 pub mod status;
-#[cfg(test)]
-mod tests;
 
 pub use files::{read_file, read_limited};
 pub use product::{send_lines, write_product};

@@ -1,8 +1,8 @@
 // A refusal is reported.
-ghost use Rattle.std.specs.Prelude.{◌≡◌, ◌++◌, codes, decimal, IfOk};
+ghost use Rattle.std.specs.Prelude.{◌≡◌, ◌++◌, ◌≤◌, codes, decimal, length, IfOk};
 ghost use Rattle.bm_course.specs.Seen.{sink_seen};
-ghost use Rattle.bm_course.specs.Goes.{Reported, WritesOnce};
-ghost use Rattle.bm_course.specs.Refusals.{refused_as, stopped_as, QuotesNothing, IsPlain};
+ghost use Rattle.bm_course.specs.Goes.{Reported, ReportedOrStarved, WritesOnce};
+ghost use Rattle.bm_course.specs.Refusals.{refused_as, stopped_as};
 
 use crate::{Refusal, Stop, status};
 use bm_base::Piece;
@@ -32,7 +32,46 @@ fn joined(alloc: Global, before: &[u8], part: &[u8], after: &[u8]) -> Result<Vec
     Ok(line)
 }
 
-/// Sends a line that quotes a part, as it is; it answers the same where there is no memory for the line.
+/// How long the texts before and behind a quoted part may be, for a line that takes no memory.
+const SHORT_TEXT: usize = 128;
+
+/// How long the part may be, so that the whole fits a piece.
+const SHORT_PART: usize = 256;
+
+/// A short line of three parts. It takes no memory.
+fn short(before: &[u8], part: &[u8], after: &[u8]) -> Piece
+    requires before { length before.now ≤ SHORT_TEXT }
+    requires part { length part.now ≤ SHORT_PART }
+    requires after { length after.now ≤ SHORT_TEXT }
+    ensures { result ≡ before.now ++ part.now ++ after.now }
+{
+    let mut line = Piece::new();
+    line.text(before);
+    line.text(part);
+    line.text(after);
+    line
+}
+
+/// Sends a line that is put together in memory first, or that of want of memory.
+fn send_long<E: Sink>(
+    alloc: Global,
+    err: &mut E,
+    code: u8,
+    before: &[u8],
+    part: &[u8],
+    after: &[u8],
+) -> u8
+    ensures told { ReportedOrStarved (sink_seen E.taken E.faults err.old) (sink_seen E.taken E.faults err.new)
+        (record { status = code; line = before.now ++ part.now ++ after.now }) result }
+    ensures once { WritesOnce (E.taken err.old) (E.taken err.new) }
+{
+    match joined(alloc, before, part, after) {
+        Ok(line) => send_line(err, code, &line),
+        Err(_) => send_line(err, status::MEMORY, b"error: no memory\n"),
+    }
+}
+
+/// Sends a line that quotes a part, as it is. A short one takes no memory; of a long one want of memory is told in its place.
 fn send_quoting<E: Sink>(
     alloc: Global,
     err: &mut E,
@@ -41,12 +80,14 @@ fn send_quoting<E: Sink>(
     part: &[u8],
     after: &[u8],
 ) -> u8
-    ensures { Reported (sink_seen E.taken E.faults err.old) (sink_seen E.taken E.faults err.new)
+    ensures told { ReportedOrStarved (sink_seen E.taken E.faults err.old) (sink_seen E.taken E.faults err.new)
         (record { status = code; line = before.now ++ part.now ++ after.now }) result }
+    ensures once { WritesOnce (E.taken err.old) (E.taken err.new) }
 {
-    match joined(alloc, before, part, after) {
-        Ok(line) => send_line(err, code, &line),
-        Err(_) => status::MEMORY,
+    if before.len() <= SHORT_TEXT && part.len() <= SHORT_PART && after.len() <= SHORT_TEXT {
+        send_line(err, code, short(before, part, after).bytes())
+    } else {
+        send_long(alloc, err, code, before, part, after)
     }
 }
 
@@ -62,8 +103,8 @@ fn limit_text(most: usize) -> Piece
 }
 
 fn report_refusal<E: Sink>(alloc: Global, err: &mut E, refusal: &Refusal) -> u8
-    ensures told { Reported (sink_seen E.taken E.faults err.old) (sink_seen E.taken E.faults err.new) (refused_as refusal.now) result }
-    ensures once { QuotesNothing refusal.now → WritesOnce (E.taken err.old) (E.taken err.new) }
+    ensures told { ReportedOrStarved (sink_seen E.taken E.faults err.old) (sink_seen E.taken E.faults err.new) (refused_as refusal.now) result }
+    ensures once { WritesOnce (E.taken err.old) (E.taken err.new) }
 {
     match refusal {
         Refusal::Usage => send_line(err, status::USAGE, b"error: usage\n"),
@@ -87,10 +128,10 @@ fn report_refusal<E: Sink>(alloc: Global, err: &mut E, refusal: &Refusal) -> u8
 
 /// Sends the line of what stopped a command, in one write, and answers the status.
 ///
-/// A line that quotes a name is put together first, which takes memory; where there is none, nothing is written.
+/// A line that quotes a name of over 256 bytes is put together in memory first; where there is none, want of memory is told in its place.
 pub fn report<E: Sink>(alloc: Global, err: &mut E, stop: &Stop) -> u8
-    ensures told { Reported (sink_seen E.taken E.faults err.old) (sink_seen E.taken E.faults err.new) (stopped_as stop.now) result }
-    ensures once { IsPlain stop.now → WritesOnce (E.taken err.old) (E.taken err.new) }
+    ensures told { ReportedOrStarved (sink_seen E.taken E.faults err.old) (sink_seen E.taken E.faults err.new) (stopped_as stop.now) result }
+    ensures once { WritesOnce (E.taken err.old) (E.taken err.new) }
 {
     match stop {
         Stop::Refused(refusal) => report_refusal(alloc, err, refusal),

@@ -1,7 +1,7 @@
 // What a command line can ask for.
 
 /// The machine that a command runs on, as a word names it.
-#[derive(Clone, Copy, Debug, PartialEq, Eq)]
+#[derive(Clone, Copy)]
 pub enum MachineWord<'a> {
     /// The default machine.
     Standard,
@@ -10,7 +10,7 @@ pub enum MachineWord<'a> {
 }
 
 /// Where in its interval each instruction's time lies.
-#[derive(Clone, Copy, Debug, PartialEq, Eq)]
+#[derive(Clone, Copy)]
 pub enum ScriptWord<'a> {
     /// Each instruction takes its least time.
     Least,
@@ -23,7 +23,7 @@ pub enum ScriptWord<'a> {
 }
 
 /// The memory that a run or an evaluation begins with, as a word names it.
-#[derive(Clone, Copy, Debug, PartialEq, Eq)]
+#[derive(Clone, Copy)]
 pub enum DataWord<'a> {
     /// The declared memory.
     Declared,
@@ -32,7 +32,7 @@ pub enum DataWord<'a> {
 }
 
 /// The barrier unit of the machine.
-#[derive(Clone, Copy, Debug, PartialEq, Eq)]
+#[derive(Clone, Copy)]
 pub enum UnitWord {
     /// The static unit: masks fire in queue order.
     Static,
@@ -41,7 +41,7 @@ pub enum UnitWord {
 }
 
 /// How a run goes: the words `UNIT SCRIPT DATA BUDGET`.
-#[derive(Clone, Copy, Debug, PartialEq, Eq)]
+#[derive(Clone, Copy)]
 pub struct RunWords<'a> {
     /// The barrier unit.
     pub unit: UnitWord,
@@ -54,7 +54,7 @@ pub struct RunWords<'a> {
 }
 
 /// A row of the command table. Names of files are not empty.
-#[derive(Clone, Copy, Debug, PartialEq, Eq)]
+#[derive(Clone, Copy)]
 pub enum Command<'a> {
     /// Evaluate the source of a file, for at most so many turns of its loops.
     Eval {

@@ -9,9 +9,9 @@ use Rattle.bm_course.specs.Seen.{FilesSeen}
 use Rattle.bm_course.specs.Ends.{Comes}
 use Rattle.unit_law.specs.State.{Program}
 use Rattle.run_text.specs.RunText.{IsRunText}
-use Rattle.trace_text.specs.TraceText.{IsRunTrace}
-use Rattle.run_inputs.specs.declared.begun.Begun.{Begun}
-use Rattle.run_inputs.specs.Beginning.{Beginning, beginning, begins_course, IsBegun}
+use Rattle.run_text.specs.TraceText.{IsRunTrace}
+use Rattle.bm_inputs.specs.declared.begun.Begun.{Begun}
+use Rattle.bm_inputs.specs.Beginning.{Beginning, beginning, begins_course, IsBegun}
 use Rattle.bmimd_top.specs.Running.{kind_of, IsRunBy, IsTraceBy, compiled_course}
 
 -- a run of what the code keeps is one of what it stands for

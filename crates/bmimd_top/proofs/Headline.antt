@@ -14,13 +14,13 @@ use Rattle.src_meaning.specs.declared.evaluate.End.{End}
 use Rattle.src_meaning.specs.declared.evaluate.End.TheVariants.{Done, More}
 use Rattle.src_meaning.specs.Meaning.{meaning}
 use Rattle.compiled_image.specs.Compiled.{IsCompiled}
-use Rattle.eval_text.specs.EvalText.{eval_text, end_status}
+use Rattle.run_text.specs.EvalText.{eval_text, end_status}
 use Rattle.stream_image.specs.Laws.{ImagesAreDeterminate}
-use Rattle.image_inputs.specs.Images.{loaded_course}
-use Rattle.image_inputs.proofs.Courses.{loaded-bounds}
+use Rattle.bm_inputs.specs.Images.{loaded_course}
+use Rattle.bm_inputs.proofs.ImageCourses.{loaded-bounds}
 use Rattle.run_text.specs.Serial.{RunsMeanTheSerialOrder, SerialEndsAreTold}
-use Rattle.run_inputs.specs.Beginning.{begun_course}
-use Rattle.run_inputs.proofs.Beginnings.{IsRight, begun-determined, begun-right}
+use Rattle.bm_inputs.specs.Beginning.{begun_course}
+use Rattle.bm_inputs.proofs.Beginnings.{IsRight, begun-determined, begun-right}
 use Rattle.bmimd_top.specs.Running.{Runs, Traces, sourced_course, counts_text, kind_of}
 use Rattle.bmimd_top.specs.Listing.{Lists, listed_course, text_of}
 use Rattle.bmimd_top.specs.Compiling.{Makes, made_course, product_of}

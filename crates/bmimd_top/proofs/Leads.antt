@@ -21,20 +21,20 @@ use Rattle.bm_course.proofs.Leading.{then-settles, judge-settles, give-settles, 
 use Rattle.bm_inputs.specs.Sources.{source_course}
 use Rattle.bm_inputs.specs.Machines.{machine_course}
 use Rattle.unit_law.proofs.SoundFits.{sound_fit, sound_stand}
-use Rattle.image_inputs.specs.Images.{loaded_course}
-use Rattle.eval_text.specs.EvalText.{eval_text}
+use Rattle.bm_inputs.specs.Images.{loaded_course}
+use Rattle.run_text.specs.EvalText.{eval_text}
 use Rattle.bm_base.specs.Memory.{Content}
 use Rattle.bm_base.specs.Memories.{IsMemoryOf}
 use Rattle.bm_inputs.proofs.Courses.{refusal}
-use Rattle.image_inputs.proofs.Courses.{loaded-bounds}
-use Rattle.run_inputs.specs.Memories.{memory_course}
-use Rattle.run_inputs.specs.Scripts.{script_course}
-use Rattle.run_inputs.specs.Beginning.{Beginning, beginning, begun_course}
-use Rattle.run_inputs.specs.Laws.{BeginningsSettle, MemoriesAreRight}
-use Rattle.run_inputs.proofs.Beginnings as begun
+use Rattle.bm_inputs.proofs.ImageCourses.{loaded-bounds}
+use Rattle.bm_inputs.specs.Memories.{memory_course}
+use Rattle.bm_inputs.specs.Scripts.{script_course}
+use Rattle.bm_inputs.specs.Beginning.{Beginning, beginning, begun_course}
+use Rattle.bm_inputs.specs.BeginningLaws.{BeginningsSettle, MemoriesAreRight}
+use Rattle.bm_inputs.proofs.Beginnings as begun
 use Rattle.bmimd_top.specs.Evaluating.{ready_course, evaluated}
 use Rattle.bmimd_top.specs.Running.{Begins, Runs, Traces, compiled_course, sourced_course, counts_text, kind_of}
-use Rattle.trace_text.specs.Laws.{KindsHaveSomeTrace}
+use Rattle.run_text.specs.TraceLaws.{KindsHaveSomeTrace}
 use Rattle.soak_text.specs.SoakCourse.{SoaksSettle, soak_course}
 use Rattle.bmimd_top.proofs.Sourced.{behind_source, behind_script, sourced-right}
 use Rattle.compiled_image.specs.Laws.{ProgramsHaveASummary}

@@ -18,13 +18,13 @@ use Rattle.stream_image.specs.Image.{IsImage}
 use Rattle.src_names.specs.RProgram.{RProgram}
 use Rattle.bm_inputs.specs.Sources.{ReadsSource, source_course}
 use Rattle.bm_inputs.specs.Machines.{ReadsMachine, machine_course}
-use Rattle.image_inputs.specs.Images.{LoadsImage, loaded_course}
-use Rattle.run_inputs.specs.Scripts.{script_course}
-use Rattle.run_inputs.specs.Scripts as scripts
-use Rattle.run_inputs.specs.Memories.{ReadsData, memory_course}
-use Rattle.run_inputs.specs.Beginning.{Beginning, beginning, begins_course, begun_course}
-use Rattle.run_inputs.specs.Laws.{BeginningsHaveOneStep}
-use Rattle.run_inputs.proofs.Beginnings.{behind_script, GivesImages}
+use Rattle.bm_inputs.specs.Images.{LoadsImage, loaded_course}
+use Rattle.bm_inputs.specs.Scripts.{script_course}
+use Rattle.bm_inputs.specs.Scripts as scripts
+use Rattle.bm_inputs.specs.Memories.{ReadsData, memory_course}
+use Rattle.bm_inputs.specs.Beginning.{Beginning, beginning, begins_course, begun_course}
+use Rattle.bm_inputs.specs.BeginningLaws.{BeginningsHaveOneStep}
+use Rattle.bm_inputs.proofs.Beginnings.{behind_script, GivesImages}
 use Rattle.src_names.specs.Right.{IsRight}
 use Rattle.bmimd_top.specs.Evaluating.{Evaluated, evaluated, ready_course}
 use Rattle.bmimd_top.specs.Headline.{ReadsProgram, ReadsScript, ReadsMemory, ReadsImage}

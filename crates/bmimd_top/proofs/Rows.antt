@@ -15,24 +15,24 @@ use Rattle.bm_course.proofs.Statuses.{outcome, refused_only, refused_at_once}
 use Rattle.bm_course.proofs.Answering.{answered}
 use Rattle.src_meaning.specs.declared.evaluate.End as e
 use Rattle.src_meaning.specs.declared.evaluate.End.TheVariants.{Done, More}
-use Rattle.bm_run.specs.RunUpTo.{End}
+use Rattle.run_text.specs.RunUpTo.{End}
 use Rattle.run_text.specs.RunText.{run_status}
 use Rattle.bm_inputs.specs.Sources.{source_course}
 use Rattle.bm_inputs.specs.Machines.{machine_course}
 use Rattle.bm_inputs.proofs.Courses.{refusal, source-bounds, machine-bounds}
 use Rattle.stream_image.specs.Image.{IsImage}
-use Rattle.image_inputs.specs.Images.{loaded_course}
-use Rattle.image_inputs.proofs.Courses.{loaded-bounds}
-use Rattle.eval_text.specs.EvalText.{eval_text, end_status}
+use Rattle.bm_inputs.specs.Images.{loaded_course}
+use Rattle.bm_inputs.proofs.ImageCourses.{loaded-bounds}
+use Rattle.run_text.specs.EvalText.{eval_text, end_status}
 use Rattle.bmimd_top.specs.Running.{Runs, Traces, sourced_course, counts_text}
 use Rattle.bmimd_top.specs.Listing.{Lists, listed_course, text_of}
 use Rattle.bmimd_top.specs.Compiling.{Makes, made_course, product_of}
 use Rattle.bmimd_top.specs.Command.{eval_course, go_course, compile_course, show_course, run_course, trace_course, check_course, course_by}
 use Rattle.bmimd_top.specs.Evaluating.{ready_course, evaluated}
-use Rattle.run_inputs.specs.Memories.{memory_course}
-use Rattle.run_inputs.specs.Beginning.{Beginning, begun_course}
-use Rattle.run_inputs.proofs.Memories.{memory-bounds}
-use Rattle.run_inputs.proofs.Beginnings.{begun-bounds}
+use Rattle.bm_inputs.specs.Memories.{memory_course}
+use Rattle.bm_inputs.specs.Beginning.{Beginning, begun_course}
+use Rattle.bm_inputs.proofs.Memories.{memory-bounds}
+use Rattle.bm_inputs.proofs.Beginnings.{begun-bounds}
 use Rattle.soak_text.specs.SoakCourse.{Soaks, soak_course}
 use Rattle.bmimd_top.specs.Clauses.{IsUsage}
 use Rattle.bmimd_top.proofs.Sourced.{sourced-bounds}

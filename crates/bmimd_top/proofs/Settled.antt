@@ -13,18 +13,18 @@ use Rattle.bm_course.specs.Laws.{IsDetermined, HasOneVerdict}
 use Rattle.bm_course.proofs.Settling.{then-determined, then-determined-of, judge-determined, give-determined, refuse-determined}
 use Rattle.bm_inputs.specs.Sources.{source_course}
 use Rattle.bm_inputs.specs.Machines.{machine_course}
-use Rattle.image_inputs.specs.Images.{loaded_course}
-use Rattle.eval_text.specs.EvalText.{eval_text}
+use Rattle.bm_inputs.specs.Images.{loaded_course}
+use Rattle.run_text.specs.EvalText.{eval_text}
 use Rattle.bmimd_top.specs.Running.{Begins, Runs, Traces, compiled_course, sourced_course, counts_text, kind_of}
-use Rattle.trace_text.specs.Laws.{KindsHaveOneTrace}
+use Rattle.run_text.specs.TraceLaws.{KindsHaveOneTrace}
 use Rattle.soak_text.specs.SoakCourse.{SoaksHaveOneStep}
 use Rattle.stream_image.specs.Image.{IsImage}
 use Rattle.bm_base.specs.Memory.{Content}
-use Rattle.run_inputs.specs.Memories.{memory_course}
-use Rattle.run_inputs.specs.Scripts.{script_course}
-use Rattle.run_inputs.specs.Beginning.{Beginning, beginning, begun_course}
-use Rattle.run_inputs.specs.Laws.{BeginningsHaveOneStep}
-use Rattle.run_inputs.proofs.Beginnings.{begun-determined}
+use Rattle.bm_inputs.specs.Memories.{memory_course}
+use Rattle.bm_inputs.specs.Scripts.{script_course}
+use Rattle.bm_inputs.specs.Beginning.{Beginning, beginning, begun_course}
+use Rattle.bm_inputs.specs.BeginningLaws.{BeginningsHaveOneStep}
+use Rattle.bm_inputs.proofs.Beginnings.{begun-determined}
 use Rattle.bmimd_top.specs.Evaluating.{ready_course, evaluated}
 use Rattle.bmimd_top.proofs.Sourced.{behind_source, behind_script}
 use Rattle.src_names.specs.Right.{IsRight}

@@ -13,13 +13,13 @@ use Rattle.src_names.specs.Right as source
 use Rattle.bm_inputs.specs.Sources.{source_course}
 use Rattle.bm_inputs.specs.Machines.{machine_course}
 use Rattle.bm_inputs.proofs.Courses.{refusal, source-bounds, machine-bounds}
-use Rattle.run_inputs.specs.Scripts.{script_course}
-use Rattle.run_inputs.specs.Memories.{memory_course}
-use Rattle.run_inputs.specs.Beginning.{Beginning}
-use Rattle.run_inputs.specs.Laws.{MemoriesAreRight}
-use Rattle.run_inputs.proofs.Scripts.{script-bounds}
-use Rattle.run_inputs.proofs.Memories.{memory-bounds}
-use Rattle.run_inputs.proofs.Beginnings.{IsRight}
+use Rattle.bm_inputs.specs.Scripts.{script_course}
+use Rattle.bm_inputs.specs.Memories.{memory_course}
+use Rattle.bm_inputs.specs.Beginning.{Beginning}
+use Rattle.bm_inputs.specs.BeginningLaws.{MemoriesAreRight}
+use Rattle.bm_inputs.proofs.Scripts.{script-bounds}
+use Rattle.bm_inputs.proofs.Memories.{memory-bounds}
+use Rattle.bm_inputs.proofs.Beginnings.{IsRight}
 use Rattle.bmimd_top.specs.Running.{Begins, compiled_course, sourced_course}
 
 -- what comes behind the source, and behind the script

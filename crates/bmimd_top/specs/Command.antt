@@ -4,9 +4,9 @@ use Rattle.bm_words.specs.Table.{Request, MachineOf, DataOf, RunWordsOf, request
 use Rattle.bm_words.specs.Table.{EvalOf, GoOf, CompileOf, ShowOf, RunOf, TraceOf, CheckOf, SoakOf}
 use Rattle.bm_course.specs.Course.{Course, Product, text_only, ◌>>=◌, give, refuse, judge}
 use Rattle.bm_course.specs.Lines.{usage}
-use Rattle.eval_text.specs.EvalText.{eval_text}
-use Rattle.image_inputs.specs.Images.{loaded_course}
-use Rattle.run_inputs.specs.Beginning.{begun_course}
+use Rattle.run_text.specs.EvalText.{eval_text}
+use Rattle.bm_inputs.specs.Images.{loaded_course}
+use Rattle.bm_inputs.specs.Beginning.{begun_course}
 use Rattle.soak_text.specs.SoakCourse.{soak_course}
 use Rattle.bmimd_top.specs.Evaluating.{ready_course}
 use Rattle.bmimd_top.specs.Running.{sourced_course, Runs, Traces, counts_text}

@@ -5,7 +5,7 @@ use Rattle.src_names.specs.RProgram.{RProgram}
 use Rattle.bm_words.specs.Table.{DataOf}
 use Rattle.bm_course.specs.Course.{Course, ◌>>=◌, give}
 use Rattle.bm_inputs.specs.Sources.{source_course}
-use Rattle.run_inputs.specs.Memories.{memory_course}
+use Rattle.bm_inputs.specs.Memories.{memory_course}
 use Rattle.bmimd_top.specs.declared.eval.Ready.{Ready}
 
 -- the program and the memory

@@ -13,8 +13,8 @@ use Rattle.bm_words.specs.Table.{DataOf, Declared, DataFile, RunWordsOf}
 use Rattle.timing_script.specs.declared.script.Script.{Script}
 use Rattle.timing_script.specs.declared.script.Script.TheVariants as rule
 use Rattle.timing_script.specs.Text.{IsScriptOf}
-use Rattle.data_file.specs.Data.{IsDataOf}
-use Rattle.run_inputs.specs.Beginning.{Beginning}
+use Rattle.timing_script.specs.Data.{IsDataOf}
+use Rattle.bm_inputs.specs.Beginning.{Beginning}
 use Rattle.bm_course.specs.Course.{Output}
 use Rattle.bm_course.specs.Seen.{Seen, holding}
 use Rattle.machine_file.specs.MachineFile.{machine_of}
@@ -22,7 +22,7 @@ use Rattle.unit_law.specs.State.{Program}
 use Rattle.unit_law.specs.Determinate.{IsDeterminate, StandsAtMost, pass_time}
 use Rattle.tuple_ir.specs.Serial.{outcome}
 use Rattle.stream_file.specs.Images.{IsTextOfImage}
-use Rattle.image_inputs.specs.Counts.{counts_line}
+use Rattle.bm_inputs.specs.Counts.{counts_line}
 use Rattle.src_names.specs.RProgram.{RProgram}
 use Rattle.src_front.specs.Reads as text
 use Rattle.src_meaning.specs.declared.evaluate.End.TheVariants.{Done}
@@ -36,7 +36,7 @@ use Rattle.tuple_lower.specs.Means.{blocks_of}
 use Rattle.show_text.specs.declared.shown.ShownBlock.{ShownBlock}
 use Rattle.show_text.specs.Shown.{AreShown}
 use Rattle.show_text.specs.Listing.{listing}
-use Rattle.eval_text.specs.EvalText.{eval_text}
+use Rattle.run_text.specs.EvalText.{eval_text}
 use Rattle.run_text.specs.RunText.{run_status}
 use Rattle.run_text.specs.Serial.{MeansSerially}
 use Rattle.run_text.specs.declared.kind.UnitKind.{UnitKind}

@@ -8,8 +8,8 @@ use Rattle.bm_course.specs.Course.{Gives}
 use Rattle.bm_course.specs.Laws.{IsDetermined}
 use Rattle.bm_inputs.specs.Sources.{source_course}
 use Rattle.bm_inputs.specs.Machines.{machine_course}
-use Rattle.image_inputs.specs.Images.{loaded_course}
-use Rattle.run_inputs.specs.Laws.{BeginningsHaveOneStep, MemoriesAreRight}
+use Rattle.bm_inputs.specs.Images.{loaded_course}
+use Rattle.bm_inputs.specs.BeginningLaws.{BeginningsHaveOneStep, MemoriesAreRight}
 use Rattle.bmimd_top.specs.Running.{sourced_course}
 use Rattle.bmimd_top.specs.Compiling.{made_course}
 use Rattle.bmimd_top.specs.Listing.{listed_course}

@@ -10,15 +10,15 @@ use Rattle.compiled_image.specs.Compiled.{IsCompiled}
 use Rattle.run_text.specs.declared.kind.UnitKind.{UnitKind}
 use Rattle.run_text.specs.declared.kind.UnitKind.TheVariants as kind
 use Rattle.run_text.specs.RunText.{IsRunText}
-use Rattle.trace_text.specs.TraceText.{IsRunTrace}
-use Rattle.image_inputs.specs.Counts.{counts_line}
+use Rattle.run_text.specs.TraceText.{IsRunTrace}
+use Rattle.bm_inputs.specs.Counts.{counts_line}
 use Rattle.bm_course.specs.declared.status.TheConstants.{ENDED}
 use Rattle.bm_course.specs.Course.{Refused, Output, Product, text_only, Course, ◌>>=◌, judge}
 use Rattle.bm_inputs.specs.Sources.{source_course}
 use Rattle.bm_inputs.specs.Machines.{machine_course}
-use Rattle.run_inputs.specs.Scripts.{script_course}
-use Rattle.run_inputs.specs.Memories.{memory_course}
-use Rattle.run_inputs.specs.Beginning.{Beginning, beginning}
+use Rattle.bm_inputs.specs.Scripts.{script_course}
+use Rattle.bm_inputs.specs.Memories.{memory_course}
+use Rattle.bm_inputs.specs.Beginning.{Beginning, beginning}
 
 abbrev pub kind_of : UnitOf → UnitKind
 kind_of Static = kind.Static

@@ -8,8 +8,8 @@ ghost use Rattle.bmimd_top.specs.Running.{counts_text};
 ghost use Rattle.bmimd_top.specs.Command.{check_course};
 
 use bm_course::{Stop, status};
+use bm_inputs::{image_line, loaded_image};
 use bm_io::{Files, Sink, SinkFault};
-use image_inputs::{image_line, loaded_image};
 use std::alloc::Global;
 use stream_image::Image;
 

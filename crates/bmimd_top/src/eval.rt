@@ -9,11 +9,10 @@ ghost use Rattle.bmimd_top.specs.Command.{eval_course};
 
 use bm_base::Store;
 use bm_course::Stop;
-use bm_inputs::source_of;
+use bm_inputs::{given_memory, source_of};
 use bm_io::{Files, Sink};
 use bm_words::DataWord;
-use eval_text::write_evaluation;
-use run_inputs::given_memory;
+use run_text::write_evaluation;
 use src_names::Resolved;
 use std::alloc::Global;
 

@@ -7,15 +7,16 @@ ghost use Rattle.bmimd_top.specs.OneStep.{CoursesHaveOneStep, LawsOfReadings};
 ghost use Rattle.bmimd_top.specs.Command.{course_of};
 ghost use Rattle.bmimd_top.specs.Enough.{EnoughTicksEndRuns};
 
-use bm_inputs::{inputs_are_right, inputs_have_one_step, inputs_settle};
+use bm_inputs::{
+    beginnings_have_one_step, beginnings_settle, images_have_one_step, images_settle,
+    inputs_are_right, inputs_have_one_step, inputs_settle, loaded_images_are_images,
+    memories_are_right,
+};
 use bm_words::requests_are_in_range;
 use compiled_image::{programs_have_images, programs_have_summaries};
-use image_inputs::{images_have_one_step, images_settle, loaded_images_are_images};
-use run_inputs::{beginnings_have_one_step, beginnings_settle, memories_are_right};
-use run_text::{bounded_runs_end, runs_have_one_text, runs_have_some_text};
+use run_text::{bounded_runs_end, kinds_have_one_trace, runs_have_one_text, runs_have_some_text};
 use show_text::{programs_are_shown, programs_are_shown_once};
 use soak_text::soaks_settle;
-use trace_text::kinds_have_one_trace;
 
 /// After the same contents, what words ask for comes to at most one step, and so do its parts.
 pub fn words_have_one_step()

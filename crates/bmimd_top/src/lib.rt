@@ -207,6 +207,3 @@ fn serve<'a, F: Files, O: Sink>(
         Some(Command::Soak { seed, statements }) => soak::soak(alloc, seed, statements, out),
     }
 }
-
-#[cfg(test)]
-mod tests;

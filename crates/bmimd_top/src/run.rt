@@ -4,17 +4,16 @@ ghost use Rattle.bm_base.specs.Memories.{IsMemoryOf};
 ghost use Rattle.bm_words.specs.Seen.{seen_run};
 ghost use Rattle.bm_course.specs.Seen.{files_seen, sink_seen};
 ghost use Rattle.bm_course.specs.Ends.{Comes, Concludes};
-ghost use Rattle.image_inputs.specs.Images.{loaded_course};
-ghost use Rattle.run_inputs.specs.Beginning.{begun_course, IsBegun};
+ghost use Rattle.bm_inputs.specs.Images.{loaded_course};
+ghost use Rattle.bm_inputs.specs.Beginning.{begun_course, IsBegun};
 ghost use Rattle.bmimd_top.specs.Command.{run_course};
 
 use crate::running::write_text;
 use bm_base::MOST_BUDGET;
 use bm_course::Stop;
+use bm_inputs::{Begun, begin, loaded_image};
 use bm_io::{Files, Sink};
 use bm_words::RunWords;
-use image_inputs::loaded_image;
-use run_inputs::{Begun, begin};
 use std::alloc::Global;
 
 /// What the run of the image of a file begins with.

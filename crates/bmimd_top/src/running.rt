@@ -7,15 +7,14 @@ ghost use Rattle.bm_io.specs.Causes.{HasCause};
 ghost use Rattle.bm_course.specs.Course.{Output};
 ghost use Rattle.bm_course.specs.Sends.{Sends};
 ghost use Rattle.bmimd_top.specs.Running.{kind_of, IsRunBy, IsTraceBy};
-ghost use Rattle.run_inputs.specs.Beginning.{beginning};
+ghost use Rattle.bm_inputs.specs.Beginning.{beginning};
 
 use bm_base::MOST_BUDGET;
+use bm_inputs::Begun;
 use bm_io::{Sink, SinkFault};
 use bm_words::{RunWords, UnitWord};
-use run_inputs::Begun;
-use run_text::{UnitKind, write_run};
+use run_text::{UnitKind, write_run, write_trace};
 use std::alloc::Global;
-use trace_text::write_trace;
 
 /// The kind of unit that a word names.
 fn unit_named(word: UnitWord) -> UnitKind

@@ -21,10 +21,10 @@ use Rattle.stream_image.specs.Image.{IsImage, IsKept, IsLawful}
 use Rattle.stream_image.specs.Line.{IsOwnLine}
 use Rattle.stream_image.proofs.Accepted.{kept_again}
 use Rattle.stream_image.proofs.LineStreams.{own_line, even_line}
-use Rattle.block_plan.specs.declared.planned.Plan.{Plan}
-use Rattle.block_plan.specs.Planned.{IsPlanned}
-use Rattle.block_plan.proofs.Machines.{has_times}
-use Rattle.block_plan.proofs.Plans.{in_order, one}
+use Rattle.compiled_image.specs.declared.planned.Plan.{Plan}
+use Rattle.compiled_image.specs.Planned.{IsPlanned}
+use Rattle.compiled_image.proofs.Machines.{has_times}
+use Rattle.compiled_image.proofs.Plans.{in_order, one}
 use Rattle.compiled_image.specs.Compiled.{ArePlans, line_in, program_of}
 use Rattle.compiled_image.proofs.Kept.{plan_kept}
 

@@ -13,12 +13,12 @@ use Rattle.line_model.specs.declared.line.Item.{Item}
 use Rattle.unit_law.specs.State.{Program}
 use Rattle.stream_image.specs.Image.{IsKept, with_line}
 use Rattle.stream_image.specs.Refused.{bad_target, target_from, target_fault}
-use Rattle.block_plan.specs.declared.planned.Plan.{Plan}
-use Rattle.block_plan.specs.Planned.{IsPlanned, IsInOrder}
+use Rattle.compiled_image.specs.declared.planned.Plan.{Plan}
+use Rattle.compiled_image.specs.Planned.{IsPlanned, IsInOrder}
 use Rattle.list_schedule.proofs.Blocks.{blocks_are_jobs}
 use Rattle.barrier_insert.proofs.LawFacts as insertion
 use Rattle.line_model.specs.Streams.{masks}
-use Rattle.block_plan.proofs.InOrder.{pair_ordered}
+use Rattle.compiled_image.proofs.InOrder.{pair_ordered}
 use Rattle.compiled_image.specs.Compiled.{line_in, program_of}
 
 -- it keeps the stream invariant

@@ -21,10 +21,10 @@ use Rattle.time_interval.proofs.OneReason.{one_reason}
 use Rattle.stream_image.specs.Image.{IsImage}
 use Rattle.stream_image.proofs.ImageFacts.{determinate_is}
 use Rattle.stream_image.proofs.LineStreams.{stream_is, masks_are, even_line}
-use Rattle.block_plan.specs.declared.planned.Plan.{Plan}
-use Rattle.block_plan.specs.Planned.{IsInOrder}
-use Rattle.block_plan.proofs.InOrder.{pair_ordered}
-use Rattle.block_plan.proofs.Plans.{in_order, irreducible, one}
+use Rattle.compiled_image.specs.declared.planned.Plan.{Plan}
+use Rattle.compiled_image.specs.Planned.{IsInOrder}
+use Rattle.compiled_image.proofs.InOrder.{pair_ordered}
+use Rattle.compiled_image.proofs.Plans.{in_order, irreducible, one}
 use Rattle.src_names.specs.RProgram.{RProgram}
 use Rattle.src_names.specs.Right.{IsRight}
 use Rattle.src_names.specs.Sizes.{AllFewNodes}

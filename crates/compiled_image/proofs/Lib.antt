@@ -7,3 +7,6 @@ pub mod Made
 pub mod LawFacts
 pub mod AddUp
 pub mod FrontFacts
+pub mod Machines
+pub mod Plans
+pub mod InOrder

@@ -9,7 +9,7 @@ use Rattle.tuple_ir.specs.declared.block.Block.{Block}
 use Rattle.line_model.specs.Streams.{masks}
 use Rattle.unit_law.specs.State.{Program}
 use Rattle.stream_image.specs.Image.{with_line}
-use Rattle.block_plan.specs.declared.planned.Plan.{Plan}
+use Rattle.compiled_image.specs.declared.planned.Plan.{Plan}
 use Rattle.bm_report.specs.declared.summary.Summary.{Summary}
 use Rattle.compiled_image.specs.declared.pairs.Tally.{Tally}
 use Rattle.compiled_image.specs.Reasons.{is_processor, is_barrier, is_time}

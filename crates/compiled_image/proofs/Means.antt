@@ -8,7 +8,7 @@ use Rattle.unit_law.specs.State.{Program, Ended, State}
 use Rattle.unit_law.specs.Steps.{Action, state_after, IsRun}
 use Rattle.bm_base.specs.Prefix.{IsPrefixOf}
 use Rattle.unit_law.specs.Determinate.{IsDeterminate, pass_time, pass_steps}
-use Rattle.block_plan.specs.declared.planned.Plan.{Plan}
+use Rattle.compiled_image.specs.declared.planned.Plan.{Plan}
 use Rattle.src_names.specs.RProgram.{RProgram}
 use Rattle.src_names.specs.Sizes.{AllFewNodes}
 use Rattle.src_meaning.specs.declared.evaluate.End.TheVariants.{Done}

@@ -8,8 +8,8 @@ use Rattle.line_model.specs.Streams.{stream, masks}
 use Rattle.unit_law.specs.State.{Program}
 use Rattle.stream_image.specs.Image.{IsImage}
 use Rattle.stream_image.specs.Line.{line_of}
-use Rattle.block_plan.specs.declared.planned.Plan.{Plan}
-use Rattle.block_plan.specs.Planned.{IsPlanned}
+use Rattle.compiled_image.specs.declared.planned.Plan.{Plan}
+use Rattle.compiled_image.specs.Planned.{IsPlanned}
 use Rattle.src_names.specs.RProgram.{RProgram}
 use Rattle.tuple_lower.specs.Means.{blocks_of}
 use Rattle.compiled_image.specs.Faithful.{IsFaithful}

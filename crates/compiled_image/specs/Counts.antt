@@ -10,8 +10,8 @@ use Rattle.line_model.specs.declared.line.Item.{Item}
 use Rattle.line_model.specs.Streams.{masks}
 use Rattle.time_interval.specs.declared.reference.Reason.{Reason}
 use Rattle.time_interval.specs.Bounds.{Pace}
-use Rattle.block_plan.specs.declared.planned.Plan.{Plan}
-use Rattle.block_plan.specs.Planned.{IsInOrder}
+use Rattle.compiled_image.specs.declared.planned.Plan.{Plan}
+use Rattle.compiled_image.specs.Planned.{IsInOrder}
 use Rattle.unit_law.specs.State.{Program}
 use Rattle.bm_report.specs.declared.summary.Summary.{Summary}
 use Rattle.compiled_image.specs.declared.pairs.Tally.{Tally}

@@ -6,8 +6,8 @@ use Rattle.unit_law.specs.State.{Program, code_at}
 use Rattle.dependence.specs.Producers.{producers_of}
 use Rattle.time_interval.specs.Bounds.{pace_on}
 use Rattle.mask_merge.specs.Reduced.{IsIrreducible}
-use Rattle.block_plan.specs.declared.planned.Plan.{Plan}
-use Rattle.block_plan.specs.Planned.{IsPlanned}
+use Rattle.compiled_image.specs.declared.planned.Plan.{Plan}
+use Rattle.compiled_image.specs.Planned.{IsPlanned}
 use Rattle.bm_report.specs.declared.summary.Summary.{Summary}
 use Rattle.src_names.specs.RProgram.{RProgram}
 use Rattle.src_names.specs.Right.{IsRight}

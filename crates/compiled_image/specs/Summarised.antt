@@ -7,8 +7,8 @@ use Rattle.tuple_ir.specs.declared.block.Block.{Block}
 use Rattle.line_model.specs.Streams.{masks}
 use Rattle.time_interval.specs.declared.reference.Reason.{Reason}
 use Rattle.time_interval.specs.Bounds.{pace_on}
-use Rattle.block_plan.specs.declared.planned.Plan.{Plan}
-use Rattle.block_plan.specs.Planned.{IsPlanned}
+use Rattle.compiled_image.specs.declared.planned.Plan.{Plan}
+use Rattle.compiled_image.specs.Planned.{IsPlanned}
 use Rattle.bm_report.specs.declared.summary.Summary.{Summary}
 use Rattle.src_names.specs.RProgram.{RProgram}
 use Rattle.tuple_lower.specs.Means.{blocks_of}

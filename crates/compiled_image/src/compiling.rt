@@ -8,7 +8,7 @@ ghost use Rattle.compiled_image.specs.Counts.{Comes, IsMade};
 
 use crate::counting::{of_no_blocks, with_block};
 use crate::pairs::{Tally, count_pairs};
-use block_plan::{Plan, plan};
+use crate::{Plan, plan};
 use bm_base::{MOST_TUPLES, Spec};
 use bm_report::Summary;
 use src_names::Resolved;

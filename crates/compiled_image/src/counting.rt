@@ -4,8 +4,8 @@ ghost use Rattle.line_model.specs.Streams.{masks};
 ghost use Rattle.compiled_image.specs.Summarised.{summary_of};
 ghost use Rattle.compiled_image.specs.Counts.{AreUpTo, HasRoom, with_block};
 
+use crate::Plan;
 use crate::pairs::Tally;
-use block_plan::Plan;
 use bm_base::{MOST_MASKS, MOST_TUPLES};
 use bm_report::Summary;
 use line_model::{Item, Line};

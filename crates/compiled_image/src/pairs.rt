@@ -4,7 +4,7 @@ ghost use Rattle.time_interval.specs.declared.reference.Reason.{Reason};
 ghost use Rattle.time_interval.specs.Bounds.{Pace, pace_on};
 ghost use Rattle.time_interval.specs.Ordered.{IsOrdered};
 ghost use Rattle.line_model.specs.declared.line.Item.{Item};
-ghost use Rattle.block_plan.specs.Planned.{IsInOrder};
+ghost use Rattle.compiled_image.specs.Planned.{IsInOrder};
 ghost use Rattle.compiled_image.specs.Fronts.{IsFrontOf, IsKind};
 ghost use Rattle.compiled_image.specs.Reasons.{Pair, pair, pairs_of};
 ghost use Rattle.compiled_image.specs.Counts.{tally_of, AreUpTo, IsTallyOf};

@@ -134,39 +134,3 @@ impl BarrierUnit for Dbm {
         Some(j)
     }
 }
-
-#[cfg(test)]
-mod tests {
-    use super::*;
-    use std::test::Fail;
-
-    fn pair(p: u8, q: u8) -> Mask
-        requires { (p < 128) × (q < 128) }
-        ensures { result ≡ bit_or (bit_or 0 (2 ^ p)) (2 ^ q) }
-    {
-        let mut mask = Mask::empty();
-        mask.insert(p);
-        mask.insert(q);
-        mask
-    }
-
-    // A mask fires before another that stands in front of it, where they share no member. Of two that
-    // share one, the second waits for the first.
-    #[test]
-    fn masks_fire_as_their_members_come(rt: HostRuntime) -> Result<(), Fail> {
-        let mut unit = Dbm::new(rt.alloc(), 2)?;
-        unit.load(&[pair(0, 1), pair(2, 3)]);
-        unit.arrive(2);
-        unit.arrive(3);
-        assert_eq!(rt; unit.pick(), Some(1));
-        unit.load(&[pair(0, 1), pair(1, 2)]);
-        unit.arrive(1);
-        unit.arrive(2);
-        assert_eq!(rt; unit.pick(), None);
-        assert_eq!(rt; unit.counts(), [1, 1].as_slice());
-        unit.arrive(0);
-        assert_eq!(rt; unit.pick(), Some(0));
-        assert_eq!(rt; unit.counts(), [0, 1].as_slice());
-        Ok(())
-    }
-}

@@ -9,8 +9,6 @@ mod conflict;
 mod deps;
 mod laws;
 mod links;
-#[cfg(test)]
-mod tests;
 mod walk;
 
 pub use deps::{Deps, conflicts};

@@ -12,8 +12,6 @@ mod job;
 mod place;
 mod steps;
 mod tables;
-#[cfg(test)]
-mod tests;
 mod totals;
 
 ghost use Rattle.std.specs.Prelude.{◌≡◌, ◌∷◌, [], map};

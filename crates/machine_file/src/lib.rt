@@ -13,6 +13,3 @@ mod read;
 pub use fault::{KeyName, MachineFault};
 pub use laws::machine_files_mean_machines;
 pub use read::read_machine;
-
-#[cfg(test)]
-mod tests;

@@ -8,6 +8,3 @@ mod turns;
 
 pub use laws::laws_of_reduction;
 pub use turns::reduce;
-
-#[cfg(test)]
-mod tests;

@@ -5,7 +5,7 @@ use Rattle.unit_law.specs.State.{Program, Mode, In, Entering, Ended, State}
 use Rattle.unit_law.specs.Units.{Choice}
 use Rattle.unit_law.specs.Steps.{Action, state_after, IsRun}
 use Rattle.unit_law.specs.Canonical.{Durations, next_action, IsCanonical}
-use Rattle.bm_run.specs.RunUpTo.{IsLastBy, end_of}
+use Rattle.run_text.specs.RunUpTo.{IsLastBy, end_of}
 use Rattle.run_text.specs.RunText.{run_status}
 
 -- an end is told where the mode says so

@@ -2,3 +2,13 @@ pub mod Texts
 pub mod Ends
 pub mod LawfulKinds
 pub mod Serials
+pub mod Later
+pub mod OneRun
+pub mod Coming
+pub mod Going
+pub mod Reaching
+pub mod WorkedRun
+pub mod Told
+pub mod Traces
+pub mod OneEvent
+pub mod Evaluating

@@ -4,7 +4,7 @@ use Rattle.bm_base.specs.Memory.{Content}
 use Rattle.tuple_ir.specs.Serial.{outcome}
 use Rattle.unit_law.specs.State.{Program, Mode, In, Entering, Ended, State}
 use Rattle.unit_law.specs.Determinate.{EndsAs}
-use Rattle.bm_run.specs.RunUpTo.{End, end_of}
+use Rattle.run_text.specs.RunUpTo.{End, end_of}
 use Rattle.run_text.specs.Serial.{EndsSerially}
 
 pub ends_serially : (m : Program) (memory : List Content) (s : State) (mode : Mode) (output : List ℤ) (e : End) → output ≡ s.world.output → end_of s mode ≡ Some e → (mode ≡ Ended → EndsAs (outcome m.blocks memory (s.clock + 1)) s) → EndsSerially m memory output e

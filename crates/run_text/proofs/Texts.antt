@@ -11,9 +11,9 @@ use Rattle.bm_io.proofs.LineSending.{Sent-values}
 use Rattle.unit_law.specs.State.{Program, State, start}
 use Rattle.unit_law.specs.Units.{Choice}
 use Rattle.unit_law.specs.Canonical.{Durations}
-use Rattle.bm_run.specs.RunUpTo.{End, IsRunUpTo}
-use Rattle.bm_run.specs.Runs.{HasCome, RunsOn, end_told}
-use Rattle.bm_run.specs.declared.runs.RunEnd.{RunEnd}
+use Rattle.run_text.specs.RunUpTo.{End, IsRunUpTo}
+use Rattle.run_text.specs.Runs.{HasCome, RunsOn, end_told}
+use Rattle.run_text.specs.declared.runs.RunEnd.{RunEnd}
 use Rattle.bm_report.specs.Text.{end_lines}
 use Rattle.bm_course.specs.Course.{Output}
 use Rattle.bm_course.specs.Sends.{Sends}

@@ -7,7 +7,7 @@ use Rattle.unit_law.specs.State.{Program, State}
 use Rattle.unit_law.specs.Units.{Choice}
 use Rattle.unit_law.specs.Canonical.{Durations}
 use Rattle.bm_machine.specs.Shown.{Shown}
-use Rattle.bm_run.specs.Runs.{HasCome}
+use Rattle.run_text.specs.Runs.{HasCome}
 use Rattle.bm_course.specs.Course.{Output}
 use Rattle.bm_course.specs.Sends.{Sends}
 use Rattle.run_text.specs.RunText.{IsTextOf}

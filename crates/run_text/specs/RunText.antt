@@ -11,7 +11,7 @@ use Rattle.unit_law.specs.Units.{Choice, static_choice, dynamic_choice}
 use Rattle.unit_law.specs.Steps.{Action, IsRun, state_after}
 use Rattle.unit_law.specs.Canonical.{Durations}
 use Rattle.unit_law.specs.Fit.{AllFit, HasTimes}
-use Rattle.bm_run.specs.RunUpTo.{End, IsRunUpTo}
+use Rattle.run_text.specs.RunUpTo.{End, IsRunUpTo}
 use Rattle.bm_report.specs.Text.{end_lines, going_lines}
 use Rattle.bm_course.specs.Course.{Output}
 use Rattle.run_text.specs.declared.kind.UnitKind.{UnitKind}

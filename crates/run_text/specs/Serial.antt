@@ -8,7 +8,7 @@ use Rattle.timing_script.specs.declared.script.Script.{Script}
 use Rattle.unit_law.specs.State.{Program}
 use Rattle.unit_law.specs.Fit.{AllFit, HasTimes}
 use Rattle.unit_law.specs.Determinate.{IsDeterminate, StandsAtMost, pass_time}
-use Rattle.bm_run.specs.RunUpTo.{End}
+use Rattle.run_text.specs.RunUpTo.{End}
 use Rattle.bm_course.specs.Course.{Output}
 use Rattle.run_text.specs.declared.kind.UnitKind.{UnitKind}
 use Rattle.run_text.specs.RunText.{IsRunText}
@@ -19,11 +19,9 @@ pub record EndsSerially (m : Program) (memory : List Content) (output : List ℤ
   pub memory_is : (outcome m.blocks memory (e.clock + 1)).world.memory ≡ e.memory
   pub output_is : (outcome m.blocks memory (e.clock + 1)).world.output ≡ output
 
--- The output is a prefix of that of the blocks' serial meaning from this memory; and where there is an end, that has ended so.
+-- The output is a prefix of what budget + 1 blocks print from this memory in serial order; and where there is an end, that has ended so.
 pub record MeansSerially (m : Program) (memory : List Content) (budget : ℕ) (output : List ℤ) (end : Option End) : Type 0 where
-  pub clock : ℕ
-  pub in_time : clock ≤ budget
-  pub front : IsPrefixOf output (outcome m.blocks memory (clock + 1)).world.output
+  pub front : IsPrefixOf output (outcome m.blocks memory (budget + 1)).world.output
   pub ends : (e : End) → end ≡ Some e → EndsSerially m memory output e
 
 abbrev pub RunsMeanTheSerialOrder : Type 0

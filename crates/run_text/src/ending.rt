@@ -2,16 +2,16 @@
 ghost use Rattle.std.specs.Prelude.{◌≡◌};
 ghost use Rattle.bm_io.specs.declared.sinks.SinkFault.TheVariants.{Failed};
 ghost use Rattle.bm_io.specs.Causes.{HasCause};
-ghost use Rattle.bm_run.specs.Runs.{end_told};
+ghost use Rattle.run_text.specs.Runs.{end_told};
 ghost use Rattle.bm_course.specs.Sends.{Sends};
 ghost use Rattle.run_text.specs.RunText.{ending_text};
 
+use crate::RunEnd;
 use bm_base::Names;
 use bm_course::status;
 use bm_io::{Sink, SinkFault};
 use bm_machine::Machine;
 use bm_report::{write_end, write_going};
-use bm_run::RunEnd;
 use timing_law::Timing;
 use unit_law::BarrierUnit;
 

@@ -8,17 +8,19 @@ ghost use Rattle.line_model.specs.Streams.{masks};
 ghost use Rattle.unit_law.specs.State.{code_at};
 ghost use Rattle.unit_law.specs.OnUnit.{IsLawfulChoice};
 ghost use Rattle.bm_machine.specs.Next.{Stays};
-ghost use Rattle.bm_run.specs.Runs.{RunsTo, GivesOn};
+ghost use Rattle.run_text.specs.Runs.{RunsTo, GivesOn};
 ghost use Rattle.bm_course.specs.Course.{Output};
 ghost use Rattle.bm_course.specs.Sends.{Sends};
 ghost use Rattle.run_text.specs.RunText.{IsTextOf, IsRunText};
 ghost use Rattle.run_text.specs.Begins.{Begins, SendsText};
 
-use crate::{UnitKind, runs_have_some_text, runs_on_any_unit_have_one_text, write_ending};
+use crate::{
+    Prints, RunEnd, UnitKind, a_run_begins, run_prints, runs_have_some_text,
+    runs_on_any_unit_have_one_text, write_ending,
+};
 use bm_base::{MOST_BUDGET, Names, Store};
 use bm_io::{LineValues, Sink, SinkFault};
 use bm_machine::Machine;
-use bm_run::{Prints, RunEnd, a_run_begins, run_prints};
 use dbm_unit::Dbm;
 use sbm_unit::Sbm;
 use std::alloc::{AllocError, Global};

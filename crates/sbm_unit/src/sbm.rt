@@ -88,37 +88,3 @@ impl BarrierUnit for Sbm {
         Some(fired)
     }
 }
-
-#[cfg(test)]
-mod tests {
-    use super::*;
-    use std::test::Fail;
-
-    fn pair(p: u8, q: u8) -> Mask
-        requires { (p < 128) × (q < 128) }
-        ensures { result ≡ bit_or (bit_or 0 (2 ^ p)) (2 ^ q) }
-    {
-        let mut mask = Mask::empty();
-        mask.insert(p);
-        mask.insert(q);
-        mask
-    }
-
-    // The masks of processors 0 and 1 and of 2 and 127: these two come first, and wait for that one to
-    // fire.
-    #[test]
-    fn only_the_head_of_the_queue_fires(rt: HostRuntime) -> Result<(), Fail> {
-        let mut unit = Sbm::new(rt.alloc(), 2)?;
-        assert_eq!(rt; unit.room(), 2);
-        unit.load(&[pair(0, 1), pair(2, 127)]);
-        unit.arrive(2);
-        unit.arrive(127);
-        assert_eq!(rt; unit.pick(), None);
-        unit.arrive(0);
-        unit.arrive(1);
-        assert_eq!(rt; unit.pick(), Some(0));
-        assert_eq!(rt; unit.pick(), Some(1));
-        assert_eq!(rt; unit.pick(), None);
-        Ok(())
-    }
-}

@@ -7,8 +7,8 @@ use Rattle.line_model.specs.declared.line.Item.{Item}
 use Rattle.time_interval.specs.declared.reference.Reason.{Reason}
 use Rattle.time_interval.specs.Bounds.{Pace, pace_on}
 use Rattle.time_interval.proofs.OneReason.{one_reason}
-use Rattle.block_plan.specs.declared.planned.Plan.{Plan}
-use Rattle.block_plan.proofs.Plans.{one}
+use Rattle.compiled_image.specs.declared.planned.Plan.{Plan}
+use Rattle.compiled_image.proofs.Plans.{one}
 use Rattle.tuple_lower.specs.Means.{blocks_of}
 use Rattle.tuple_lower.specs.Sound.{LoweredAreSound}
 use Rattle.compiled_image.specs.Reasons.{Pair, pairs_of, AreReasons}

@@ -5,8 +5,8 @@ use Rattle.tuple_ir.specs.declared.block.Block.{Block}
 use Rattle.line_model.specs.declared.line.Item.{Item}
 use Rattle.line_model.specs.declared.line.Item.TheVariants.{Run, Bar}
 use Rattle.time_interval.specs.Bounds.{Pace, pace_on}
-use Rattle.block_plan.specs.declared.planned.Plan.{Plan}
-use Rattle.block_plan.specs.Planned.{IsPlanned}
+use Rattle.compiled_image.specs.declared.planned.Plan.{Plan}
+use Rattle.compiled_image.specs.Planned.{IsPlanned}
 use Rattle.compiled_image.specs.Reasons.{Pair, pair, pairs_of, AreReasons}
 use Rattle.show_text.specs.declared.shown.ShownItem.{ShownItem}
 use Rattle.show_text.specs.declared.shown.ShownPair.{ShownPair}

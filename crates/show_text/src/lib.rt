@@ -7,8 +7,6 @@
 
 mod laws;
 mod shown;
-#[cfg(test)]
-mod tests;
 mod writing;
 
 pub use laws::{programs_are_shown, programs_are_shown_once};

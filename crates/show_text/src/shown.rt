@@ -3,16 +3,16 @@
 ghost use Rattle.std.specs.Prelude.{◌≡◌, ◌≤◌, ◌<◌, ◌^◌, ◌++◌, List, All, Contains, IfOk, OnOk, length, map};
 ghost use Rattle.src_names.specs.Sizes.{AllFewNodes, statements};
 ghost use Rattle.tuple_lower.specs.Means.{blocks_of};
-ghost use Rattle.block_plan.specs.declared.planned.Plan.{Plan};
-ghost use Rattle.block_plan.specs.Planned.{IsPlanned, IsInOrder};
+ghost use Rattle.compiled_image.specs.declared.planned.Plan.{Plan};
+ghost use Rattle.compiled_image.specs.Planned.{IsPlanned, IsInOrder};
 ghost use Rattle.time_interval.specs.Bounds.{pace_on};
 ghost use Rattle.time_interval.specs.Lines.{tuples};
 ghost use Rattle.time_interval.specs.Ordered.{IsOrdered};
 ghost use Rattle.compiled_image.specs.Reasons.{Pair, pair, pairs_of};
 ghost use Rattle.show_text.specs.Shown.{IsShown, AreShown, ArePairs, RunsBelow, shown_item};
 
-use block_plan::{Plan, plan};
 use bm_base::{MOST_TUPLES, Sequence, Spec};
+use compiled_image::{Plan, plan};
 use dependence::conflicts;
 use line_model::{Item, Line};
 use src_names::Resolved;

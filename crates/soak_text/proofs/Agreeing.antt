@@ -2,7 +2,7 @@
 use Rattle.std.proofs.Common.{◌≡◌, ℕ, ◌≤◌, List, Some, refl, sym, ap, ◌∙◌, ◌⊎◌, inl, inr, arith}
 use Rattle.bm_base.specs.Memory.{Content, initial}
 use Rattle.unit_law.specs.State.{Mode, In, Entering, Ended, State}
-use Rattle.bm_run.specs.RunUpTo.{End, end_of}
+use Rattle.run_text.specs.RunUpTo.{End, end_of}
 use Rattle.src_names.specs.RProgram.{RProgram}
 use Rattle.src_meaning.specs.declared.evaluate.End.TheVariants.{Done}
 use Rattle.src_meaning.specs.Meaning.{Outcome, meaning}

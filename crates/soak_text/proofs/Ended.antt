@@ -3,7 +3,7 @@ use Rattle.std.proofs.Common.{◌≡◌, Bool, true, false, ◌||◌, if◌then�
 use Rattle.std.specs.Prelude.{is_none}
 use Rattle.std.specs.List.{list_any}
 use Rattle.bm_course.specs.declared.status.TheConstants.{ENDED, GOING}
-use Rattle.bm_run.specs.RunUpTo.{End}
+use Rattle.run_text.specs.RunUpTo.{End}
 use Rattle.src_meaning.specs.declared.evaluate.End.{End as Stand}
 use Rattle.src_meaning.specs.declared.evaluate.End.TheVariants.{Done, More}
 use Rattle.src_meaning.specs.Meaning.{Outcome}

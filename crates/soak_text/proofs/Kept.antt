@@ -8,9 +8,9 @@ use Rattle.bm_io.specs.declared.sinks.SinkFault.{SinkFault}
 use Rattle.unit_law.specs.State.{Program, State}
 use Rattle.unit_law.specs.Units.{Choice}
 use Rattle.unit_law.specs.Canonical.{Durations}
-use Rattle.bm_run.specs.RunUpTo.{IsRunUpTo}
-use Rattle.bm_run.specs.Runs.{RunsOn, end_told}
-use Rattle.bm_run.specs.declared.runs.RunEnd.{RunEnd}
+use Rattle.run_text.specs.RunUpTo.{IsRunUpTo}
+use Rattle.run_text.specs.Runs.{RunsOn, end_told}
+use Rattle.run_text.specs.declared.runs.RunEnd.{RunEnd}
 use Rattle.src_meaning.specs.declared.evaluate.End.{End}
 use Rattle.src_meaning.specs.Meaning.{Outcome}
 use Rattle.run_text.specs.Begins.{Begins}

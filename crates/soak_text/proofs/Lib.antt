@@ -7,3 +7,13 @@ pub mod Rows
 pub mod Kept
 pub mod Ended
 pub mod Concluding
+pub mod Steps
+pub mod Shapes
+pub mod Shortness
+pub mod Naming
+pub mod Alike
+pub mod PlainParts
+pub mod GeneratedRows
+pub mod Courses
+pub mod GeneratedLines
+pub mod Limits

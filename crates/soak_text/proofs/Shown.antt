@@ -8,8 +8,8 @@ use Rattle.unit_law.specs.State.{Program}
 use Rattle.unit_law.specs.Units.{static_choice, dynamic_choice}
 use Rattle.unit_law.specs.OnUnit.{IsLawfulChoice}
 use Rattle.unit_law.specs.Fit.{AllFit, AllStand, HasTimes}
-use Rattle.bm_run.specs.RunUpTo.{End, IsRunUpTo}
-use Rattle.bm_run.specs.Laws.{RunsShowSomething, RunsShowOneThing}
+use Rattle.run_text.specs.RunUpTo.{End, IsRunUpTo}
+use Rattle.run_text.specs.RunLaws.{RunsShowSomething, RunsShowOneThing}
 use Rattle.run_text.specs.declared.kind.UnitKind.{UnitKind}
 use Rattle.run_text.specs.RunText.{choice_of}
 use Rattle.run_text.proofs.LawfulKinds.{lawful}

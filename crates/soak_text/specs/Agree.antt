@@ -4,7 +4,7 @@ use Rattle.bm_base.specs.Spec.{standard}
 use Rattle.src_names.specs.RProgram.{RProgram}
 use Rattle.src_meaning.specs.declared.evaluate.End.TheVariants.{Done}
 use Rattle.unit_law.specs.State.{Program}
-use Rattle.bm_run.specs.RunUpTo.{End}
+use Rattle.run_text.specs.RunUpTo.{End}
 use Rattle.bm_course.specs.declared.status.TheConstants.{ENDED}
 use Rattle.bm_course.specs.Course.{Output}
 use Rattle.compiled_image.specs.Compiled.{IsCompiled}

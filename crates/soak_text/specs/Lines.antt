@@ -5,7 +5,7 @@ use Rattle.std.specs.Fmt.{signed_decimal}
 use Rattle.bm_base.specs.Word.{wrap}
 use Rattle.bm_io.specs.declared.fold_values.FoldValues.{FoldValues}
 use Rattle.bm_report.specs.Text.{line}
-use Rattle.bm_run.specs.RunUpTo.{End}
+use Rattle.run_text.specs.RunUpTo.{End}
 use Rattle.run_text.specs.declared.kind.UnitKind.{UnitKind}
 use Rattle.run_text.specs.declared.kind.UnitKind.TheVariants.{Static, Dynamic}
 use Rattle.src_meaning.specs.declared.evaluate.End.{End as Stand}

@@ -7,7 +7,7 @@ use Rattle.bm_io.specs.declared.sinks.SinkFault.{SinkFault}
 use Rattle.unit_law.specs.State.{Program}
 use Rattle.unit_law.specs.Units.{Choice}
 use Rattle.unit_law.specs.Canonical.{Durations}
-use Rattle.bm_run.specs.RunUpTo.{IsRunUpTo}
+use Rattle.run_text.specs.RunUpTo.{IsRunUpTo}
 use Rattle.src_meaning.specs.Meaning.{Outcome}
 use Rattle.soak_text.specs.declared.evaluating.Evaluated.{Evaluated}
 use Rattle.soak_text.specs.declared.running.Ran.{Ran}

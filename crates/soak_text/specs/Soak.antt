@@ -7,12 +7,12 @@ use Rattle.src_tree.specs.Text.{program_text}
 use Rattle.src_names.specs.RProgram.{RProgram}
 use Rattle.src_front.specs.Reads.{Reads}
 use Rattle.src_meaning.specs.Meaning.{Outcome, meaning}
-use Rattle.bm_gen.specs.Generator.{generated}
+use Rattle.soak_text.specs.Generator.{generated}
 use Rattle.timing_script.specs.Script.{script_duration}
 use Rattle.timing_script.specs.declared.script.Script.{Script}
 use Rattle.timing_script.specs.declared.script.Script.TheVariants as script
 use Rattle.unit_law.specs.State.{Program}
-use Rattle.bm_run.specs.RunUpTo.{IsRunUpTo}
+use Rattle.run_text.specs.RunUpTo.{IsRunUpTo}
 use Rattle.bm_report.specs.declared.summary.Summary.{Summary}
 use Rattle.bm_report.specs.Summary.{summary_lines}
 use Rattle.bm_course.specs.declared.status.TheConstants.{ENDED, GOING}

@@ -3,10 +3,10 @@ ghost use Rattle.soak_text.specs.Agree.{EndsAgree, SoaksAgree};
 ghost use Rattle.soak_text.specs.Laws.{RunsAreShown, RunsAreShownOnce, SoaksHaveAText, SoaksHaveOneText};
 ghost use Rattle.soak_text.specs.SoakCourse.{SoaksHaveOneStep, SoaksSettle};
 
+use crate::{generated_texts_are_read_back, generated_trees_are_named};
 use bm_base::{Spec, laws_of_memories};
-use bm_gen::{generated_texts_are_read_back, generated_trees_are_named};
-use bm_run::a_run_shows_one_thing;
 use compiled_image::{programs_have_images, programs_have_summaries};
+use run_text::a_run_shows_one_thing;
 use src_front::{programs_are_read_right, texts_read_once};
 use src_meaning::turns_only_add;
 use unit_law::{canonical_runs_are_runs, choices_are_lawful, lawful_units_run};

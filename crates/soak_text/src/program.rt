@@ -4,13 +4,13 @@ ghost use Rattle.bm_io.specs.declared.sinks.SinkFault.TheVariants.{Memory};
 ghost use Rattle.src_names.specs.Sizes.{AllFewNodes, statements as count_statements};
 ghost use Rattle.src_tree.specs.Text.{program_text};
 ghost use Rattle.src_front.specs.Reads.{Reads};
-ghost use Rattle.bm_gen.specs.Generator.{generated};
+ghost use Rattle.soak_text.specs.Generator.{generated};
 
-use bm_base::MOST_STATEMENTS;
-use bm_gen::{
+use crate::{
     MOST_DECLARATION_BYTES, MOST_ITEM_BYTES, generate, generated_texts_are_read_back,
     generated_trees_are_named,
 };
+use bm_base::MOST_STATEMENTS;
 use bm_io::SinkFault;
 use src_front::{SourceFault, read_source};
 use src_names::Resolved;

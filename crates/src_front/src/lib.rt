@@ -10,6 +10,3 @@ mod source;
 pub use fault::SourceFault;
 pub use laws::{programs_are_read_right, sources_have_one_answer, texts_read_once};
 pub use source::read_source;
-
-#[cfg(test)]
-mod tests;

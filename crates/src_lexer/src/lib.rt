@@ -14,6 +14,3 @@ pub use fault::LexFault;
 pub use laws::{spelled_tokens_are_in_order, text_has_one_spelling, texts_have_one_answer};
 pub use scan::lex;
 pub use token::{Keyword, Symbol, Token, TokenKind};
-
-#[cfg(test)]
-mod tests;

@@ -6,8 +6,6 @@
 
 mod evaluate;
 mod laws;
-#[cfg(test)]
-mod tests;
 
 pub use evaluate::{End, eval};
 pub use laws::{loops_go_round, turns_only_add};

@@ -16,6 +16,3 @@ pub use fault::NameFault;
 pub use laws::{trees_have_one_answer, trees_have_one_program};
 pub use naming::resolve;
 pub use resolved::{RExpr, RStmt, Resolved};
-
-#[cfg(test)]
-mod tests;

@@ -8,7 +8,7 @@ use sqlite_items::{Boxed, Items};
 use std::marker::Model;
 
 /// An expression. Each value is a word.
-#[derive(Debug, Drop)]
+#[derive(Drop)]
 pub enum RExpr {
     /// A number.
     Number {
@@ -46,7 +46,7 @@ pub enum RExpr {
 }
 
 /// A statement.
-#[derive(Debug, Drop)]
+#[derive(Drop)]
 pub enum RStmt {
     /// A variable takes a value.
     Assign {

@@ -22,6 +22,3 @@ pub use laws::{
 };
 pub use program::parse;
 pub use want::Want;
-
-#[cfg(test)]
-mod tests;

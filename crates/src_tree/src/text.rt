@@ -72,6 +72,16 @@ fn write_expr(out: &mut Vec<u8>, x: &Expr) -> Result<(), AllocError>
     }
 }
 
+/// An expression between two texts.
+#[tactic(auto, using(std::proofs::Common::append_assoc))]
+fn write_between(out: &mut Vec<u8>, before: &[u8], x: &Expr, after: &[u8]) -> Result<(), AllocError>
+    ensures { OnOk result (out.new.items ≡ out.old.items ++ (before.now ++ expr_text x.now ++ after.now)) }
+{
+    out.extend_from_slice(before)?;
+    write_expr(out, x)?;
+    out.extend_from_slice(after)
+}
+
 #[cycle(write_statements)]
 #[tactic(auto, using(crate::proofs::Equations::statement_texts, std::proofs::Common::append_assoc))]
 fn write_stmt(out: &mut Vec<u8>, stmt: &Stmt) -> Result<(), AllocError>
@@ -80,36 +90,23 @@ fn write_stmt(out: &mut Vec<u8>, stmt: &Stmt) -> Result<(), AllocError>
     match stmt {
         Stmt::Assign { name, value } => {
             out.extend_from_slice(name.text.as_slice())?;
-            out.extend_from_slice(b" = ")?;
-            write_expr(out, value)?;
-            out.extend_from_slice(b";\n")
+            write_between(out, b" = ", value, b";\n")
         }
         Stmt::SetElement { name, index, value } => {
             out.extend_from_slice(name.text.as_slice())?;
-            out.extend_from_slice(b"[")?;
-            write_expr(out, index)?;
-            out.extend_from_slice(b"] = ")?;
-            write_expr(out, value)?;
-            out.extend_from_slice(b";\n")
+            write_between(out, b"[", index, b"] = ")?;
+            write_between(out, b"", value, b";\n")
         }
-        Stmt::Print { value } => {
-            out.extend_from_slice(b"print ")?;
-            write_expr(out, value)?;
-            out.extend_from_slice(b";\n")
-        }
+        Stmt::Print { value } => write_between(out, b"print ", value, b";\n"),
         Stmt::If { cond, yes, no } => {
-            out.extend_from_slice(b"if ")?;
-            write_expr(out, cond)?;
-            out.extend_from_slice(b" {\n")?;
+            write_between(out, b"if ", cond, b" {\n")?;
             write_body(out, yes.as_slice())?;
             out.extend_from_slice(b"} else {\n")?;
             write_body(out, no.as_slice())?;
             out.extend_from_slice(b"}\n")
         }
         Stmt::While { cond, body } => {
-            out.extend_from_slice(b"while ")?;
-            write_expr(out, cond)?;
-            out.extend_from_slice(b" {\n")?;
+            write_between(out, b"while ", cond, b" {\n")?;
             write_body(out, body.as_slice())?;
             out.extend_from_slice(b"}\n")
         }

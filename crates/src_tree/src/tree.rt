@@ -4,7 +4,7 @@ use bm_base::{Bin, Un};
 use sqlite_items::{Boxed, Items};
 
 /// A name, and where it stands.
-#[derive(Debug, Drop)]
+#[derive(Drop)]
 pub struct Ident {
     /// Its bytes.
     pub text: Items<u8>,
@@ -13,7 +13,7 @@ pub struct Ident {
 }
 
 /// An expression. Each value is a word.
-#[derive(Debug, Drop)]
+#[derive(Drop)]
 pub enum Expr {
     /// A number; from a source it is 0 or more.
     Number {
@@ -51,7 +51,7 @@ pub enum Expr {
 }
 
 /// A statement.
-#[derive(Debug, Drop)]
+#[derive(Drop)]
 pub enum Stmt {
     /// `NAME = value;`
     Assign {
@@ -93,7 +93,7 @@ pub enum Stmt {
 }
 
 /// A declaration.
-#[derive(Debug, Drop)]
+#[derive(Drop)]
 pub enum Decl {
     /// `var NAME = initial;`
     Var {
@@ -112,7 +112,7 @@ pub enum Decl {
 }
 
 /// A program: declarations, then statements.
-#[derive(Debug, Drop)]
+#[derive(Drop)]
 pub struct Program {
     /// The declarations, in order.
     pub decls: Items<Decl>,

@@ -8,8 +8,6 @@ mod fault;
 mod line;
 mod loading;
 mod reading;
-#[cfg(test)]
-mod tests;
 mod words;
 mod writing;
 

@@ -13,7 +13,7 @@ use std::alloc::Global;
 use stream_image::{Image, ImageFault};
 
 /// Why bytes are not loaded as an image.
-#[derive(Clone, Copy, Debug, PartialEq, Eq)]
+#[derive(Clone, Copy)]
 pub enum LoadFault {
     /// The bytes are no text of an image: the first line that cannot stand at its place after the
     /// lines before it.

@@ -64,6 +64,22 @@ fn mask(out: &mut Vec<u8>, mask: Mask) -> Result<(), AllocError>
     text(out, digits.bytes())
 }
 
+/// A word and a number behind it.
+fn worded(out: &mut Vec<u8>, word: &[u8], value: u64) -> Result<(), AllocError>
+    ensures { OnOk result (out.new.items ≡ out.old.items ++ (word.now ++ 32 ∷ decimal value)) }
+{
+    text(out, word)?;
+    field(out, value)
+}
+
+/// A word and two numbers behind it.
+fn worded_two(out: &mut Vec<u8>, word: &[u8], first: u64, second: u64) -> Result<(), AllocError>
+    ensures { OnOk result (out.new.items ≡ out.old.items ++ (word.now ++ 32 ∷ (decimal first ++ 32 ∷ decimal second))) }
+{
+    worded(out, word, first)?;
+    field(out, second)
+}
+
 fn tuple(out: &mut Vec<u8>, tuple: Tuple) -> Result<(), AllocError>
     ensures text { OnOk result (out.new.items ≡ out.old.items ++ spec.tuple_text tuple) }
     ensures typed { fields.TupleFits tuple }
@@ -73,39 +89,20 @@ fn tuple(out: &mut Vec<u8>, tuple: Tuple) -> Result<(), AllocError>
             text(out, b"const")?;
             signed(out, value)
         }
-        Tuple::Load { name } => {
-            text(out, b"load")?;
-            field(out, u64::from(name))
-        }
+        Tuple::Load { name } => worded(out, b"load", u64::from(name)),
         Tuple::Store { name, value } => {
-            text(out, b"store")?;
-            field(out, u64::from(name))?;
-            field(out, u64::from(value))
+            worded_two(out, b"store", u64::from(name), u64::from(value))
         }
         Tuple::LoadEl { name, index } => {
-            text(out, b"loadel")?;
-            field(out, u64::from(name))?;
-            field(out, u64::from(index))
+            worded_two(out, b"loadel", u64::from(name), u64::from(index))
         }
         Tuple::StoreEl { name, index, value } => {
-            text(out, b"storeel")?;
-            field(out, u64::from(name))?;
-            field(out, u64::from(index))?;
+            worded_two(out, b"storeel", u64::from(name), u64::from(index))?;
             field(out, u64::from(value))
         }
-        Tuple::One { op, a } => {
-            text(out, unary_word(op))?;
-            field(out, u64::from(a))
-        }
-        Tuple::Two { op, a, b } => {
-            text(out, binary_word(op))?;
-            field(out, u64::from(a))?;
-            field(out, u64::from(b))
-        }
-        Tuple::Print { value } => {
-            text(out, b"print")?;
-            field(out, u64::from(value))
-        }
+        Tuple::One { op, a } => worded(out, unary_word(op), u64::from(a)),
+        Tuple::Two { op, a, b } => worded_two(out, binary_word(op), u64::from(a), u64::from(b)),
+        Tuple::Print { value } => worded(out, b"print", u64::from(value)),
     }
 }
 
@@ -151,29 +148,20 @@ fn line(out: &mut Vec<u8>, line: Line) -> Result<(), AllocError>
     ensures typed { IsTyped (row line.entry) }
 {
     match line {
-        Line::Version { version } => {
-            text(out, b"bmimd")?;
-            field(out, u64::from(version))
-        }
-        Line::Processors { count } => {
-            text(out, b"processors")?;
-            field(out, u64::from(count))
-        }
-        Line::Barrier { delay } => {
-            text(out, b"barrier")?;
-            field(out, u64::from(delay))
-        }
+        Line::Version { version } => worded(out, b"bmimd", u64::from(version)),
+        Line::Processors { count } => worded(out, b"processors", u64::from(count)),
+        Line::Barrier { delay } => worded(out, b"barrier", u64::from(delay)),
         Line::Times { class, time } => {
             text(out, b"time ")?;
-            text(out, class_word(class))?;
-            field(out, u64::from(time.least))?;
-            field(out, u64::from(time.most))
+            worded_two(
+                out,
+                class_word(class),
+                u64::from(time.least),
+                u64::from(time.most),
+            )
         }
         Line::Named { name, kind } => entry(out, name, kind),
-        Line::Opens { number } => {
-            text(out, b"block")?;
-            field(out, u64::from(number))
-        }
+        Line::Opens { number } => worded(out, b"block", u64::from(number)),
         Line::Does { tuple: t } => {
             text(out, b"t ")?;
             tuple(out, t)
@@ -183,8 +171,7 @@ fn line(out: &mut Vec<u8>, line: Line) -> Result<(), AllocError>
             mask(out, Mask::of_number(m))
         }
         Line::Streams { processor, items } => {
-            text(out, b"p")?;
-            field(out, u64::from(processor))?;
+            worded(out, b"p", u64::from(processor))?;
             text(out, b" ")?;
             text(out, items)
         }

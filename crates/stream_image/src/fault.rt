@@ -4,7 +4,7 @@ ghost use Rattle.stream_image.specs.Refused as spec;
 
 /// The first thing that a block with its streams and masks does not keep, in this order; that its
 /// conflicting pairs are in order comes behind these.
-#[derive(Clone, Copy, Debug, PartialEq, Eq)]
+#[derive(Clone, Copy)]
 pub enum BlockFault {
     /// A stream is given for a processor that the machine lacks; the lowest.
     Processor {
@@ -44,7 +44,7 @@ pub enum BlockFault {
 }
 
 /// Why a block or an image is refused: the first cause in this order.
-#[derive(Clone, Copy, Debug, PartialEq, Eq)]
+#[derive(Clone, Copy)]
 pub enum ImageFault {
     /// A stream is given for a processor that the machine lacks; the lowest.
     Processor {

@@ -17,8 +17,6 @@ mod order;
 mod shelf;
 mod sorted;
 mod stream_list;
-#[cfg(test)]
-mod tests;
 
 pub use builder::ImageBuilder;
 pub use fault::{BlockFault, ImageFault};

@@ -1,9 +1,7 @@
 -- Of private functions: where the Bars of a line stand, and a line that lacks one item of another.
-use Rattle.std.specs.Prelude.{◌≡◌, ℕ, suc, ◌<◌, List, length, slice_index}
+use Rattle.std.specs.Prelude.{◌≡◌, ℕ, ◌<◌, List, length, slice_index}
 use Rattle.line_model.specs.declared.line.Item.{Item}
 use Rattle.line_model.specs.Streams.{masks}
-use Rattle.time_interval.specs.declared.edit.Edit.{Edit}
-use Rattle.time_interval.specs.declared.edit.Edit.TheVariants.{Remove, Merge}
 use Rattle.time_interval.specs.declared.places.Places.{Places}
 use Rattle.time_interval.specs.Places.{place_of_bar, without_place}
 
@@ -14,11 +12,6 @@ pub record AreFirstPlaces (line : List Item) (bars : ℕ) (places : List ℕ) : 
 
 abbrev pub ArePlaces : List Item → Places → Type 0
 ArePlaces line p = AreFirstPlaces line p.bars p.places
-
--- the Bar that an edit leaves out
-abbrev pub dropped_bar : Edit → ℕ
-dropped_bar (Remove j) = j
-dropped_bar (Merge j) = suc j
 
 -- the second line lacks the item of the first at the gap, where there is one
 abbrev pub IsGapped : ℕ → List Item → List Item → Type 0

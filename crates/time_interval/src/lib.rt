@@ -19,8 +19,6 @@ mod places;
 mod reference;
 mod rows;
 pub mod seen;
-#[cfg(test)]
-mod tests;
 mod timed;
 mod timeline;
 mod timing;

@@ -14,8 +14,8 @@ use Rattle.bm_base.specs.Lines.{unlines}
 use Rattle.bm_base.specs.Numeral.{all_digits, count_of}
 use Rattle.bm_base.proofs.StrictTexts.{both_true, none_some}
 use Rattle.bm_base.proofs.NumberTexts.{numerals, count_of-decimal}
-use Rattle.field_rows.specs.Spelling.{is_plain, IsPlainField, IsPlainRow, spaced, numbered}
-use Rattle.field_rows.proofs.Spelled.{spelled}
+use Rattle.timing_script.specs.Spelling.{is_plain, IsPlainField, IsPlainRow, spaced, numbered}
+use Rattle.timing_script.proofs.Spelled.{spelled}
 use Rattle.timing_law.specs.Within.{duration_by-reached}
 use Rattle.timing_script.specs.declared.script.Script.TheVariants.{File}
 use Rattle.timing_script.specs.Text.{Gift, GiveAll, offsets_for, IsTextOf}

@@ -7,7 +7,7 @@ use Rattle.std.proofs.lemmas.Bool.Decides.{nat_tests}
 use Rattle.std.proofs.lemmas.List.{get_or-set_same, get_or-set_other, length-set, get_or-replicate, length-replicate, ext_get_or}
 use Rattle.bm_base.specs.Numeral.{count_of}
 use Rattle.bm_base.proofs.StrictTexts.{none_some, some_same, same_of_eq, differ_of_eq}
-use Rattle.field_rows.specs.Rows.{TextRow, rows_of}
+use Rattle.timing_script.specs.Rows.{TextRow, rows_of}
 use Rattle.timing_script.specs.declared.reading.ScriptFault.{ScriptFault}
 use Rattle.timing_script.specs.declared.reading.ScriptFault.TheVariants.{ScriptText, Memory}
 use Rattle.timing_script.specs.Text.{Gift, Gives, GiveAll, offsets_for, IsTextOf, IsAllowed, IsFirstWrong, IsFault}

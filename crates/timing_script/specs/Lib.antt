@@ -4,3 +4,9 @@ pub mod Within
 pub mod Text
 pub mod Reading
 pub mod Laws
+pub mod Rows
+pub mod Spelling
+pub mod Data
+pub mod DataLaws
+pub mod DataReading
+pub mod Shown

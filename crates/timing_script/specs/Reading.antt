@@ -3,7 +3,7 @@ use Rattle.std.specs.Prelude.{ℕ, nat_le, if◌then◌else◌, List, [], ◌∷
 use Rattle.std.specs.Prelude.{Err, ◌≡◌}
 use Rattle.std.specs.Option.{option_and_then}
 use Rattle.bm_base.specs.Numeral.{count_of}
-use Rattle.field_rows.specs.Rows.{TextRow, rows_of}
+use Rattle.timing_script.specs.Rows.{TextRow, rows_of}
 use Rattle.timing_script.specs.declared.offsets.TheConstants.{PROCESSORS}
 use Rattle.timing_script.specs.declared.reading.ScriptFault.{ScriptFault}
 use Rattle.timing_script.specs.declared.reading.ScriptFault.TheVariants.{ScriptText, Memory}

@@ -2,7 +2,7 @@
 use Rattle.std.specs.Prelude.{ℕ, ◌≡◌, ◌==◌, ◌<◌, ◌≤◌, if◌then◌else◌, List, [], ◌∷◌, ◌++◌, length, map, get_or, Some}
 use Rattle.std.specs.List.{AllByRecursion}
 use Rattle.bm_base.specs.Numeral.{count_of}
-use Rattle.field_rows.specs.Rows.{TextRow, rows_of}
+use Rattle.timing_script.specs.Rows.{TextRow, rows_of}
 use Rattle.timing_script.specs.declared.reading.ScriptFault.{ScriptFault}
 use Rattle.timing_script.specs.declared.reading.ScriptFault.TheVariants.{ScriptText, Memory}
 use Rattle.timing_script.specs.declared.script.Script.{Script}

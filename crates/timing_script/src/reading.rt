@@ -5,9 +5,8 @@ ghost use Rattle.timing_script.specs.Reading as spec;
 ghost use Rattle.timing_script.specs.Reading.{Takes, Reads, filled, taken, reading};
 ghost use Rattle.timing_script.specs.Text.{IsTextOf, IsScriptOf, IsFirstWrong, IsFault};
 
-use crate::{Offsets, Script};
+use crate::{Fields, Offsets, Rows, Script};
 use bm_base::count;
-use field_rows::{Fields, Rows};
 use std::alloc::Global;
 
 /// Why a script is not read.

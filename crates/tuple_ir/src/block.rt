@@ -36,24 +36,3 @@ pub struct Blocks {
     /// The blocks, by their numbers.
     pub blocks: BlockList,
 }
-
-#[cfg(test)]
-mod tests {
-    use super::*;
-    use std::test::Fail;
-
-    #[test]
-    fn lists_hold_what_is_pushed(rt: HostRuntime) -> Result<(), Fail> {
-        let mut tuples = Tuples::new(rt.alloc());
-        tuples.push(Tuple::Const { value: 7 })?;
-        tuples.push(Tuple::Print { value: 0 })?;
-        assert_eq!(rt; tuples.items().len(), 2);
-        let mut blocks = BlockList::new(rt.alloc());
-        blocks.push(Block {
-            tuples,
-            next: Next::Halt,
-        })?;
-        assert_eq!(rt; blocks.items().len(), 1);
-        Ok(())
-    }
-}

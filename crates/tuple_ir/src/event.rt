@@ -3,7 +3,7 @@ use bm_base::Mask;
 
 /// One event of a run. `at` is its tick, counted from 0 at the run's start; `processor` counts from 0;
 /// `tuple` is a number in the block that runs, and `block` one in the program.
-#[derive(Clone, Copy, Debug, PartialEq, Eq)]
+#[derive(Clone, Copy)]
 pub enum Event {
     /// A processor begins a tuple, which takes `time` ticks.
     Started {

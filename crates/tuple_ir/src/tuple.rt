@@ -7,7 +7,7 @@ use bm_base::{Bin, Class, Un};
 /// One instruction of a block. It is numbered by its place in the block, from 0, and has a cell of
 /// that number. Operands (`value`, `index`, `a`, `b`) are the cells of earlier tuples of the block;
 /// `name` is the number of a declared name.
-#[derive(Clone, Copy, Debug, PartialEq, Eq)]
+#[derive(Clone, Copy)]
 pub enum Tuple {
     /// Gives the word `value`.
     Const { value: i64 },
@@ -53,70 +53,5 @@ pub fn gives_value(tuple: Tuple) -> bool
     match tuple {
         Tuple::Store { .. } | Tuple::StoreEl { .. } | Tuple::Print { .. } => false,
         _ => true,
-    }
-}
-
-#[cfg(test)]
-mod tests {
-    use super::*;
-
-    #[test]
-    fn tuples_have_their_classes_and_values(rt: HostRuntime) {
-        for (tuple, want, value) in [
-            (Tuple::Const { value: -1 }, Class::Const, true),
-            (Tuple::Load { name: 3 }, Class::Load, true),
-            (Tuple::Store { name: 3, value: 0 }, Class::Store, false),
-            (Tuple::LoadEl { name: 4, index: 0 }, Class::LoadEl, true),
-            (
-                Tuple::StoreEl {
-                    name: 4,
-                    index: 0,
-                    value: 1,
-                },
-                Class::StoreEl,
-                false,
-            ),
-            (Tuple::One { op: Un::Not, a: 0 }, Class::Alu, true),
-            (
-                Tuple::Two {
-                    op: Bin::Shl,
-                    a: 0,
-                    b: 1,
-                },
-                Class::Alu,
-                true,
-            ),
-            (
-                Tuple::Two {
-                    op: Bin::Mul,
-                    a: 0,
-                    b: 1,
-                },
-                Class::Mul,
-                true,
-            ),
-            (
-                Tuple::Two {
-                    op: Bin::Div,
-                    a: 0,
-                    b: 1,
-                },
-                Class::Div,
-                true,
-            ),
-            (
-                Tuple::Two {
-                    op: Bin::Rem,
-                    a: 0,
-                    b: 1,
-                },
-                Class::Div,
-                true,
-            ),
-            (Tuple::Print { value: 0 }, Class::Print, false),
-        ] {
-            assert_eq!(rt; class(tuple), want, "class of {tuple:?}");
-            assert_eq!(rt; gives_value(tuple), value, "value of {tuple:?}");
-        }
     }
 }

@@ -2,7 +2,7 @@ use Rattle.std.proofs.Common.{[], ap, Ok, Err}
 use Rattle.std.proofs.lemmas.Result.{err_from_is_err_and}
 use Rattle.bm_course.specs.Course.{text_only, give, Gives}
 use Rattle.bm_course.proofs.Concluding.{Concludes-stop, Concludes-text}
-use Rattle.image_inputs.specs.Images.{IsLoaded, loaded_course}
+use Rattle.bm_inputs.specs.Images.{IsLoaded, loaded_course}
 use Rattle.bmimd_top.specs.Running.{counts_text}
 use Rattle.bmimd_top.proofs.check.check.Goals as goal
 

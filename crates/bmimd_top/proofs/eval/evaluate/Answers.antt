@@ -3,7 +3,7 @@ use Rattle.std.proofs.lemmas.Result.{err_from_is_err_and}
 use Rattle.bm_words.specs.Seen.{seen_data}
 use Rattle.bm_course.specs.Course.{text_only, give, Gives}
 use Rattle.bm_course.proofs.Concluding.{Concludes-stop, Concludes-text}
-use Rattle.eval_text.specs.EvalText.{eval_text}
+use Rattle.run_text.specs.EvalText.{eval_text}
 use Rattle.bmimd_top.specs.Evaluating.{ready_course, IsReady}
 use Rattle.bmimd_top.proofs.eval.evaluate.Goals as goal
 

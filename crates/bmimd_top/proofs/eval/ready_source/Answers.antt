@@ -6,8 +6,8 @@ use Rattle.bm_course.specs.Course.{give, ◌>>=◌}
 use Rattle.bm_course.proofs.Coming.{Comes-stop, Comes-give, Comes-then}
 use Rattle.bm_inputs.specs.Sources.{source_course}
 use Rattle.bm_inputs.specs.Standing.{IsProgram}
-use Rattle.run_inputs.specs.Memories.{memory_course, IsMemory}
-use Rattle.run_inputs.proofs.Beginnings.{by_names}
+use Rattle.bm_inputs.specs.Memories.{memory_course, IsMemory}
+use Rattle.bm_inputs.proofs.Beginnings.{by_names}
 use Rattle.bmimd_top.specs.declared.eval.Ready.{Ready}
 use Rattle.bmimd_top.specs.Evaluating.{evaluated, IsReady}
 use Rattle.bmimd_top.proofs.eval.ready_source.Goals as goal

@@ -5,7 +5,7 @@ use Rattle.bm_course.proofs.Coming.{Comes-stop, Comes-then}
 use Rattle.bm_inputs.specs.Sources.{source_course}
 use Rattle.bm_inputs.specs.Machines.{machine_course}
 use Rattle.bm_inputs.specs.Standing.{IsProgram, IsMachine}
-use Rattle.run_inputs.specs.Beginning.{IsBegun}
+use Rattle.bm_inputs.specs.Beginning.{IsBegun}
 use Rattle.bmimd_top.specs.Running.{compiled_course}
 use Rattle.bmimd_top.proofs.Begun.{of_inputs}
 use Rattle.bmimd_top.proofs.Sourced.{behind_source}

@@ -6,11 +6,11 @@ use Rattle.bm_course.specs.declared.refusal.Stop.TheVariants as stop
 use Rattle.bm_course.specs.Course.{judge, accepted}
 use Rattle.bm_course.proofs.Coming.{Comes-stop, Comes-give, Comes-starve, Comes-then}
 use Rattle.compiled_image.specs.Compiled.{IsCompiled}
-use Rattle.run_inputs.specs.declared.begun.Begun.{Begun}
-use Rattle.run_inputs.specs.Scripts.{script_course, IsScript}
-use Rattle.run_inputs.specs.Memories.{memory_course, IsMemory}
-use Rattle.run_inputs.specs.Beginning.{beginning, IsBegun}
-use Rattle.run_inputs.proofs.Beginnings.{by_names}
+use Rattle.bm_inputs.specs.declared.begun.Begun.{Begun}
+use Rattle.bm_inputs.specs.Scripts.{script_course, IsScript}
+use Rattle.bm_inputs.specs.Memories.{memory_course, IsMemory}
+use Rattle.bm_inputs.specs.Beginning.{beginning, IsBegun}
+use Rattle.bm_inputs.proofs.Beginnings.{by_names}
 use Rattle.bmimd_top.specs.Running.{Begins}
 use Rattle.bmimd_top.proofs.Sourced.{behind_script}
 use Rattle.bmimd_top.proofs.go.compiled_begin.Goals as goal

@@ -3,7 +3,7 @@ use Rattle.std.proofs.lemmas.Result.{err_from_is_err_and}
 use Rattle.bm_words.specs.Seen.{seen_machine, seen_run}
 use Rattle.bm_course.specs.Course.{text_only, judge, accepted}
 use Rattle.bm_course.proofs.Concluding.{Concludes-stop, Concludes-text}
-use Rattle.run_inputs.specs.Beginning.{IsBegun}
+use Rattle.bm_inputs.specs.Beginning.{IsBegun}
 use Rattle.bmimd_top.specs.Running.{sourced_course, Runs}
 use Rattle.bmimd_top.proofs.Begun.{run_of}
 use Rattle.bmimd_top.proofs.go.go.Goals as goal

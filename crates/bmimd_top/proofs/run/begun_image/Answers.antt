@@ -1,8 +1,8 @@
 use Rattle.std.proofs.lemmas.Result.{err_from_is_err_and}
 use Rattle.bm_words.specs.Seen.{seen_run}
 use Rattle.bm_course.proofs.Coming.{Comes-stop, Comes-then}
-use Rattle.image_inputs.specs.Images.{IsLoaded, loaded_course}
-use Rattle.run_inputs.specs.Beginning.{begins_course, IsBegun}
+use Rattle.bm_inputs.specs.Images.{IsLoaded, loaded_course}
+use Rattle.bm_inputs.specs.Beginning.{begins_course, IsBegun}
 use Rattle.bmimd_top.proofs.Begun.{of_image}
 use Rattle.bmimd_top.proofs.run.begun_image.Goals as goal
 

@@ -3,8 +3,8 @@ use Rattle.std.proofs.lemmas.Result.{err_from_is_err_and}
 use Rattle.bm_words.specs.Seen.{seen_run}
 use Rattle.bm_course.specs.Course.{text_only, judge, accepted}
 use Rattle.bm_course.proofs.Concluding.{Concludes-stop, Concludes-text}
-use Rattle.image_inputs.specs.Images.{loaded_course}
-use Rattle.run_inputs.specs.Beginning.{begun_course, IsBegun}
+use Rattle.bm_inputs.specs.Images.{loaded_course}
+use Rattle.bm_inputs.specs.Beginning.{begun_course, IsBegun}
 use Rattle.bmimd_top.specs.Running.{Runs}
 use Rattle.bmimd_top.proofs.Begun.{run_of}
 use Rattle.bmimd_top.proofs.run.run_image.Goals as goal

@@ -1,6 +1,6 @@
 use Rattle.std.proofs.Common.{◌≤◌, ◌∙◌, sym, ap, arith}
 use Rattle.std.proofs.lemmas.Result.{err_from_is_err_and}
-use Rattle.bm_run.specs.Runs.{end_told}
+use Rattle.run_text.specs.Runs.{end_told}
 use Rattle.run_text.proofs.Texts.{prints_stop, then_ending, before_all, ending_as}
 use Rattle.run_text.proofs.writing.show.Goals as goal
 

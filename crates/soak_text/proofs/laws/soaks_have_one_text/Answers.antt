@@ -2,7 +2,7 @@ use Rattle.std.proofs.Common.{◌≡◌, refl, sym, ap, subst, ◌∙◌}
 use Rattle.bm_base.specs.Machine.{IsMachine}
 use Rattle.bm_base.specs.Spec.{standard}
 use Rattle.src_tree.specs.Text.{program_text}
-use Rattle.bm_gen.specs.Generator.{generated}
+use Rattle.soak_text.specs.Generator.{generated}
 use Rattle.compiled_image.specs.Compiled.{IsImageOf}
 use Rattle.compiled_image.specs.Summarised.{IsSummaryOf}
 use Rattle.soak_text.specs.Lines.{parts}

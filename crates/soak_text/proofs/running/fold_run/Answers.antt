@@ -1,5 +1,5 @@
 use Rattle.std.proofs.Common.{◌≤◌, Some, None, refl, ap, arith}
-use Rattle.bm_run.specs.declared.runs.RunEnd.TheVariants.{Ended, Going}
+use Rattle.run_text.specs.declared.runs.RunEnd.TheVariants.{Ended, Going}
 use Rattle.soak_text.specs.Lines.{budget}
 use Rattle.soak_text.proofs.Kept.{has_ran}
 use Rattle.soak_text.proofs.running.fold_run.Goals as goal

@@ -1,3 +1,0 @@
-pub mod Machines
-pub mod Plans
-pub mod InOrder

@@ -1,8 +1,0 @@
-use Rattle.block_plan.proofs.InOrder.{lines_sound, determinate}
-use Rattle.block_plan.proofs.laws.planned_programs_are_determinate.Goals as goal
-
-pub returns-clause-sound : goal.returns-clause-sound
-returns-clause-sound c = lines_sound
-
-pub returns-clause-determinate : goal.returns-clause-determinate
-returns-clause-determinate c = determinate

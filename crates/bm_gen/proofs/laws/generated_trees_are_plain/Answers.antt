@@ -1,5 +1,0 @@
-use Rattle.bm_gen.proofs.Limits.{plain}
-use Rattle.bm_gen.proofs.laws.generated_trees_are_plain.Goals as goal
-
-pub returns : goal.returns
-returns c = λ seed statements few. plain seed statements c.text_has_one_spelling.ensures few

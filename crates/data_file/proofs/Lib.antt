@@ -1,6 +1,0 @@
-pub mod Elements
-pub mod Gifts
-pub mod Laid
-pub mod Outcome
-pub mod Readings
-pub mod OfNames

@@ -1,3 +1,0 @@
-mod FieldTexts
-mod RowTexts
-pub mod Spelled

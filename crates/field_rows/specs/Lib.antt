@@ -1,3 +1,0 @@
--- The definitions, in the order in which to read them.
-pub mod Rows
-pub mod Spelling

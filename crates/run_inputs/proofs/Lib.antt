@@ -1,4 +1,0 @@
-pub mod Statuses
-pub mod Scripts
-pub mod Memories
-pub mod Beginnings
