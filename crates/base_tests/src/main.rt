@@ -1,8 +1,6 @@
-//! Tests of words, texts, files, sinks and refusals: what no clause says, and each call once.
+//! Tests of words, texts, files and sinks: what no clause says, and each call once.
 #![tactic(auto)]
 
-#[cfg(test)]
-mod course_tests;
 #[cfg(test)]
 mod io_tests;
 #[cfg(test)]
