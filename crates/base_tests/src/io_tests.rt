@@ -180,6 +180,43 @@ fn a_real_file_is_replaced_and_a_device_is_not(rt: HostRuntime) -> Result<(), Fa
     Ok(())
 }
 
+/// A name of 250 bytes in a folder. A name of its own with an ending behind it would be too long.
+fn long_name(alloc: Global) -> Result<String, AllocError> {
+    let mut name = String::from_str(alloc, "bm_io_folder/")?;
+    for _ in 0..25 {
+        name.push_str("bm_io_long")?;
+    }
+    Ok(name)
+}
+
+const LEFTOVER: &str = "bm_io_folder/bmimd.0.new";
+
+#[test]
+fn a_long_name_is_written_beside_a_leftover(rt: HostRuntime) -> Result<(), Fail> {
+    let name = long_name(rt.alloc())?;
+    let made = std::fs::create_dir(&rt, "bm_io_folder").is_ok();
+    let mut files = RealFiles::new(&rt);
+    let put = puts(
+        &mut files,
+        &[(LEFTOVER, "left", Ok(())), (name.as_str(), "new", Ok(()))],
+    );
+    let kept = reads(
+        &mut files,
+        rt.alloc(),
+        &[
+            (name.as_str(), 9, "new"),
+            (LEFTOVER, 9, "left"),
+            ("bm_io_folder/bmimd.1.new", 9, "failed"),
+        ],
+    )?;
+    assert!(rt; made && put && kept);
+    let gone = std::fs::remove_file(&rt, LEFTOVER).is_ok()
+        && std::fs::remove_file(&rt, name.as_str()).is_ok()
+        && std::fs::remove_dir(&rt, "bm_io_folder").is_ok();
+    assert!(rt; gone);
+    Ok(())
+}
+
 const WORDS: [i64; 4] = [7, -8, 0, i64::MIN];
 
 fn take_all<V: Values>(out: &mut V, values: &[i64]) -> Result<(), SinkFault> {
@@ -189,23 +226,44 @@ fn take_all<V: Values>(out: &mut V, values: &[i64]) -> Result<(), SinkFault> {
     Ok(())
 }
 
+/// A call that fails behind so many bytes, or that finds no memory; the answer; and the text.
+const REFUSALS: [(u32, Option<usize>, Result<(), SinkFault>, &str); 5] = [
+    (9, Some(0), Ok(()), "7\n-8\n0\n-9223372036854775808\n"),
+    (1, Some(0), Err(SinkFault::Failed), ""),
+    (2, Some(2), Err(SinkFault::Failed), "7\n-8"),
+    (3, Some(9), Err(SinkFault::Failed), "7\n-8\n0\n"),
+    (2, None, Err(SinkFault::Memory), "7\n"),
+];
+
 /// Whether the words are written as this text, with this answer.
-fn written(sink: &mut MemSink, answer: Result<(), SinkFault>, text: &str) -> bool {
-    let mut lines = LineValues::new(sink);
-    take_all(&mut lines, &WORDS) == answer && sink.taken() == text.as_bytes()
+fn written(
+    alloc: Global,
+    call: u32,
+    taken: Option<usize>,
+    answer: Result<(), SinkFault>,
+    text: &str,
+) -> Result<bool, AllocError> {
+    let mut sink = MemSink::new(alloc);
+    match taken {
+        Some(bytes) => sink.fail(call, bytes)?,
+        None => sink.refuse(call)?,
+    }
+    let mut lines = LineValues::new(&mut sink);
+    Ok(take_all(&mut lines, &WORDS) == answer && sink.taken() == text.as_bytes())
+}
+
+fn all_written(alloc: Global) -> Result<bool, AllocError> {
+    for (call, taken, answer, text) in &REFUSALS {
+        if !written(alloc, *call, *taken, *answer, text)? {
+            return Ok(false);
+        }
+    }
+    Ok(true)
 }
 
 #[test]
 fn values_are_written_as_lines_up_to_a_refusal(rt: HostRuntime) -> Result<(), Fail> {
-    let whole = "7\n-8\n0\n-9223372036854775808\n";
-    let mut first = MemSink::new(rt.alloc());
-    let mut second = MemSink::new(rt.alloc());
-    second.fail(2, 2)?;
-    let mut third = MemSink::new(rt.alloc());
-    third.refuse(2)?;
-    let all = written(&mut first, Ok(()), whole);
-    let cut = written(&mut second, Err(SinkFault::Failed), "7\n-8");
-    assert!(rt; all && cut && written(&mut third, Err(SinkFault::Memory), "7\n"));
+    assert!(rt; all_written(rt.alloc())?);
     Ok(())
 }
 

@@ -146,7 +146,9 @@ fn a_sequence_holds_its_values(rt: HostRuntime) -> Result<(), Fail> {
     values.push(3)?;
     values.set(0, 7);
     let last = values.pop();
-    assert!(rt; last == Some(3) && values.items() == [7, 2].as_slice());
+    let held = values.items() == [7, 2].as_slice();
+    let none = Sequence::<i64>::new(rt.alloc()).items().is_empty();
+    assert!(rt; last == Some(3) && held && none && values.into_vec().len() == 2);
     Ok(())
 }
 
@@ -168,13 +170,16 @@ fn a_piece_is_put_together(rt: HostRuntime) {
 #[test]
 fn masks_are_sets(rt: HostRuntime) {
     let mut low = Mask::empty();
+    let empty = low.is_empty();
     low.insert(0);
     low.insert(127);
     let mut high = Mask::empty();
     high.insert(127);
     let members = low.has(127) && !low.has(1) && !low.has(200) && low.next_member(1) == Some(127);
     let sets = low.meets(high) && high.is_within(low) && low.union(high) == low;
-    assert!(rt; members && sets && !low.without(high).has(127) && low.next_member(128).is_none());
+    let left = low.without(high);
+    assert!(rt; empty && members && sets && low.next_member(128).is_none());
+    assert!(rt; left.has(0) && !left.has(127));
 }
 
 /// The first numbers that SplitMix64 gives from the seed 0.
@@ -193,6 +198,8 @@ const BACKWARDS: Interval = Interval { least: 2, most: 1 };
 
 #[test]
 fn machines_are_in_range(rt: HostRuntime) {
+    let standard = Spec::standard();
+    assert!(rt; standard.processors() == 4 && standard.time(Class::LoadEl).most == 6);
     let made = Spec::new(128, 100, [TIME; 9]).is_some();
     let wide = Spec::new(129, 100, [TIME; 9]).is_none();
     let slow = Spec::new(128, 101, [TIME; 9]).is_none();
@@ -230,5 +237,6 @@ fn names_are_refused_in_order(rt: HostRuntime) -> Result<(), Fail> {
     assert!(rt;
         added && copy.len() == 2 && copy.find(b"A") == Some(1) && copy.find(b"B").is_none()
     );
+    assert!(rt; Store::new(rt.alloc(), &copy).is_ok());
     Ok(())
 }

@@ -54,7 +54,7 @@ Goes-done f g o p e course status h = record {
 
 later_of : {e n : SinkSeen} {r : Refused} {status : ℕ} → ReportedOrStarved e n r status → e.faults ≤ n.faults
 later_of (inl k) = k.later
-later_of (inr k) = k.later
+later_of (inr k) = k.1.later
 
 -- one that is stopped is reported
 pub Goes-stopped : (f g : FilesSeen) (o p e n : SinkSeen) (course : Course Product) (stop : Stop) (status : ℕ) → Concludes f g o p course (Err stop) → ReportedOrStarved e n (stopped_as stop) status

@@ -8,7 +8,7 @@ use Rattle.bm_course.specs.Course.{Refused, Product, Course, refuse, IsReading}
 use Rattle.bm_course.specs.Lines.{no_memory}
 use Rattle.bm_course.specs.Laws.{Bounds}
 use Rattle.bm_course.specs.Seen.{Seen}
-use Rattle.bm_course.specs.Goes.{TakesLine, WritesOnce, Told, whole, part, nothing, to_read, to_write, Meets, refused, unread, unwritten_file, unwritten, starved, starved_writing, Ending, done, told, Goes}
+use Rattle.bm_course.specs.Goes.{TakesLine, IsLong, WritesOnce, Told, whole, part, nothing, to_read, to_write, Meets, refused, unread, unwritten_file, unwritten, starved, starved_writing, Ending, done, told, Goes}
 use Rattle.bm_course.specs.Clauses.{HasWritten, IsRefused, IsUnread, IsUnwritten, IsStarved, Reports, StopsAtOnce}
 
 -- how a call went, by its status
@@ -48,10 +48,10 @@ module _ (before now : Seen) (course : Course Product) (status : ℕ) where
         was_unwritten (record { contents = contents; names = names; reading = reading; refusal = r; meets = unwritten p g h a f k; err = inl (s, t) }) (q ∙ s)
     by_whole (starved a o k) q t =
         let s : r.status ≡ 11 = ap (λ x. x.status) k in
-        was_starved (record { contents = contents; names = names; reading = reading; refusal = r; meets = starved a o k; err = inl (subst (λ x. TakesLine before.err.taken now.err.taken x.line) k t) }) (q ∙ s)
+        was_starved (record { contents = contents; names = names; reading = reading; refusal = r; meets = starved a o k; err = inl (inl k, subst (λ x. TakesLine before.err.taken now.err.taken x.line) k t) }) (q ∙ s)
     by_whole (starved_writing p g h a k) q t =
         let s : r.status ≡ 11 = ap (λ x. x.status) k in
-        was_starved (record { contents = contents; names = names; reading = reading; refusal = r; meets = starved_writing p g h a k; err = inl (subst (λ x. TakesLine before.err.taken now.err.taken x.line) k t) }) (q ∙ s)
+        was_starved (record { contents = contents; names = names; reading = reading; refusal = r; meets = starved_writing p g h a k; err = inl (inl k, subst (λ x. TakesLine before.err.taken now.err.taken x.line) k t) }) (q ∙ s)
 
     by_report : Meets before now course contents names r → Told before.err now.err r status → Outcome before now course status
     by_report m (whole t q) = by_whole m q t
@@ -59,14 +59,14 @@ module _ (before now : Seen) (course : Course Product) (status : ℕ) where
     by_report m (nothing t q) = was_starved (record { contents = contents; names = names; reading = reading; refusal = r; meets = m; err = inr t }) q
 
     -- want of memory for its line was told in its place
-    by_starving : Meets before now course contents names r → Told before.err now.err no_memory status → Outcome before now course status
-    by_starving m (whole t q) = was_starved (record { contents = contents; names = names; reading = reading; refusal = r; meets = m; err = inl t }) q
-    by_starving m (part t f q) = was_unwritten (record { contents = contents; names = names; reading = reading; refusal = r; meets = m; err = inr (inr (t, f)) }) q
-    by_starving m (nothing t q) = was_starved (record { contents = contents; names = names; reading = reading; refusal = r; meets = m; err = inr t }) q
+    by_starving : Meets before now course contents names r → IsLong r.line → Told before.err now.err no_memory status → Outcome before now course status
+    by_starving m l (whole t q) = was_starved (record { contents = contents; names = names; reading = reading; refusal = r; meets = m; err = inl (inr l, t) }) q
+    by_starving m l (part t f q) = was_unwritten (record { contents = contents; names = names; reading = reading; refusal = r; meets = m; err = inr (inr (l, t, f)) }) q
+    by_starving m l (nothing t q) = was_starved (record { contents = contents; names = names; reading = reading; refusal = r; meets = m; err = inr t }) q
 
     by_either : Meets before now course contents names r → Reports before now r status → Outcome before now course status
     by_either m (inl k) = by_report m k.line
-    by_either m (inr k) = by_starving m k.line
+    by_either m (inr k) = by_starving m k.0 k.1.line
 
   by_ending : (contents names : List (List ℕ)) → IsReading before.files.held course contents names → Ending before now course contents names status → Outcome before now course status
   by_ending contents names reading (done p g s t n k) =
@@ -165,7 +165,7 @@ module _ (before now : Seen) (course : Course Product) (status : ℕ) (b : Bound
   sent_once : (contents names : List (List ℕ)) → Ending before now course contents names status → (HasEnded status → ⊥) → WritesOnce before.err.taken now.err.taken
   sent_once contents names (done p g s t n k) h = absurd (h (subst HasEnded (sym k) (b.gives contents [] p g)))
   sent_once contents names (told r m (inl k)) h = line_once r k.line
-  sent_once contents names (told r m (inr k)) h = line_once no_memory k.line
+  sent_once contents names (told r m (inr k)) h = line_once no_memory k.1.line
 
   pub tells : Goes before now course status → (HasEnded status → ⊥) → WritesOnce before.err.taken now.err.taken
   tells g = sent_once g.contents g.names g.ending
@@ -185,7 +185,7 @@ module _ (before now : Seen) (course : Course Product) (status : ℕ) (b : Bound
     faultless (was_written w) = inl (product_status w, w)
     faultless (was_refused r) = inr (inl (refusal_status r, r))
     faultless (was_unread u k) = absurd (files u.rose)
-    faultless (was_unwritten u k) = elim u.err [ inl x ↦ absurd (shows u.contents u.names u.refusal u.meets x.0) | inr x ↦ elim x [ inl y ↦ absurd (err y.1) | inr y ↦ absurd (err y.1) ] ]
+    faultless (was_unwritten u k) = elim u.err [ inl x ↦ absurd (shows u.contents u.names u.refusal u.meets x.0) | inr x ↦ elim x [ inl y ↦ absurd (err y.1) | inr y ↦ absurd (err y.2) ] ]
     faultless (was_starved u k) = inr (inr k)
 
 -- words that are refused at once

@@ -8,7 +8,7 @@ use Rattle.bm_course.specs.declared.status.TheConstants.{UNWRITTEN}
 use Rattle.bm_course.specs.Course.{Refused, NewFile, Product, Step, Asks, Refuses, Gives, Course, IsReading}
 use Rattle.bm_course.specs.Lines.{no_memory, cannot_read, cannot_write, cannot_write_file}
 use Rattle.bm_course.specs.Seen.{Seen, Asked, Stands}
-use Rattle.bm_course.specs.Goes.{TakesLine, ReportedOrStarved, Rests, Meets}
+use Rattle.bm_course.specs.Goes.{TakesLine, IsLong, ReportedOrStarved, Rests, Meets}
 
 -- The course came to a product, the whole of it was written, and this is its status.
 pub record HasWritten (before now : Seen) (course : Course Product) (status : ℕ) : Type 0 where
@@ -47,7 +47,8 @@ pub record IsUnread (before now : Seen) (course : Course Product) : Type 0 where
   pub rests : Rests before now
   pub err : TakesLine before.err.taken now.err.taken (cannot_read name).line
 
--- A write failed: one of the file or of the text, which was told, or one of the line of this refusal or of want of memory in its place.
+-- A write failed: one of the file or of the text, which was told, or one of the line of this refusal, or of want of memory in the place of
+-- a long one.
 pub record IsUnwritten (before now : Seen) (course : Course Product) : Type 0 where
   pub contents : List (List ℕ)
   pub names : List (List ℕ)
@@ -56,17 +57,18 @@ pub record IsUnwritten (before now : Seen) (course : Course Product) : Type 0 wh
   pub meets : Meets before now course contents names refusal
   pub err : ((refusal.status ≡ UNWRITTEN) × TakesLine before.err.taken now.err.taken refusal.line)
       ⊎ (TakesPrefix before.err.taken now.err.taken refusal.line × Rose before.err.faults now.err.faults)
-      ⊎ (TakesPrefix before.err.taken now.err.taken no_memory.line × Rose before.err.faults now.err.faults)
+      ⊎ (IsLong refusal.line × TakesPrefix before.err.taken now.err.taken no_memory.line × Rose before.err.faults now.err.faults)
 
--- There was no memory: before the text, behind some of its lines, or for the line of this refusal, which was told; or for the write of
--- the line that told it.
+-- There was no memory: before the text, behind some of its lines, or for the long line of this refusal, which was told; or for the write
+-- of the line that told it.
 pub record IsStarved (before now : Seen) (course : Course Product) : Type 0 where
   pub contents : List (List ℕ)
   pub names : List (List ℕ)
   pub reading : IsReading before.files.held course contents names
   pub refusal : Refused
   pub meets : Meets before now course contents names refusal
-  pub err : TakesLine before.err.taken now.err.taken no_memory.line ⊎ (now.err.taken ≡ tried before.err.taken)
+  pub err : (((refusal ≡ no_memory) ⊎ IsLong refusal.line) × TakesLine before.err.taken now.err.taken no_memory.line)
+      ⊎ (now.err.taken ≡ tried before.err.taken)
 
 -- The held files, asked for by these names one after another, lead the course to this step.
 pub record Leads (held : Held) (course : Course Product) (names : List (List ℕ)) (s : Step Product) : Type 0 where
@@ -74,7 +76,7 @@ pub record Leads (held : Held) (course : Course Product) (names : List (List ℕ
   pub reading : IsReading (Some held) course contents names
   pub comes : course contents s
 
--- the refusal is reported at the end of the call, or want of memory is in its place
+-- the refusal is reported at the end of the call, or want of memory in the place of a long one
 abbrev pub Reports : Seen → Seen → Refused → ℕ → Type 0
 Reports before now r status = ReportedOrStarved before.err now.err r status
 

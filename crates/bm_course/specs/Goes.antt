@@ -1,9 +1,10 @@
 -- How a call of the program goes.
-use Rattle.std.specs.Prelude.{ℕ, ◌≡◌, ◌≤◌, ◌⊎◌, List, [], ◌∷◌, ◌++◌, Some}
+use Rattle.std.specs.Prelude.{ℕ, ◌≡◌, ◌≤◌, ◌<◌, ◌⊎◌, List, [], ◌∷◌, ◌++◌, length, Some}
 use Rattle.bm_io.specs.Causes.{Rose, next_call}
 use Rattle.bm_io.specs.LineValues.{TakesPrefix}
 use Rattle.bm_io.specs.Sink.{Taken, written, tried, Takes, TakesWhole, TakesPart}
 use Rattle.bm_course.specs.declared.status.TheConstants.{UNWRITTEN, MEMORY}
+use Rattle.bm_course.specs.declared.reporting.TheConstants.{SHORT_LINE}
 use Rattle.bm_course.specs.Course.{Refused, NewFile, Product, Asks, Refuses, Gives, Course, IsReading}
 use Rattle.bm_course.specs.Seen.{SinkSeen, Seen, Later, Asked, Stands, Untouched}
 use Rattle.bm_course.specs.Lines.{cannot_read, cannot_write_file, cannot_write, no_memory}
@@ -30,9 +31,13 @@ pub record Reported (before now : SinkSeen) (r : Refused) (status : ℕ) : Type 
   pub line : Told before now r status
   pub later : before.faults ≤ now.faults
 
--- The refusal was told; or there was no memory to make its line, and this was told in its place.
+-- a line that is put together in memory
+abbrev pub IsLong : List ℕ → Type 0
+IsLong line = SHORT_LINE < length line
+
+-- The refusal was told; or its line is long, there was no memory to make it, and this was told in its place.
 abbrev pub ReportedOrStarved : SinkSeen → SinkSeen → Refused → ℕ → Type 0
-ReportedOrStarved before now r status = Reported before now r status ⊎ Reported before now no_memory status
+ReportedOrStarved before now r status = Reported before now r status ⊎ (IsLong r.line × Reported before now no_memory status)
 
 -- neither a held file nor the output was touched
 abbrev pub Rests : Seen → Seen → Type 0
@@ -73,7 +78,7 @@ pub data Ending (before now : Seen) (course : Course Product) (contents names : 
   done : (p : Product) → course contents (Gives p []) → Stands before.files now.files names p.file
       → Takes before.out.taken now.out.taken p.text.lines
       → now.err ≡ before.err → status ≡ p.text.status → Ending before now course contents names status
-  -- a refusal was met, and its line was sent, or that of want of memory
+  -- a refusal was met, and its line was sent, or, if it is long, that of want of memory
   told : (r : Refused) → Meets before now course contents names r → ReportedOrStarved before.err now.err r status
       → Ending before now course contents names status
 

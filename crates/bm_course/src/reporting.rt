@@ -1,5 +1,5 @@
 // A refusal is reported.
-ghost use Rattle.std.specs.Prelude.{◌≡◌, ◌++◌, ◌≤◌, codes, decimal, length, IfOk};
+ghost use Rattle.std.specs.Prelude.{◌≡◌, ◌++◌, ◌≤◌, ◌<◌, codes, decimal, length, Decides, IfOk};
 ghost use Rattle.bm_course.specs.Seen.{sink_seen};
 ghost use Rattle.bm_course.specs.Goes.{Reported, ReportedOrStarved, WritesOnce};
 ghost use Rattle.bm_course.specs.Refusals.{refused_as, stopped_as};
@@ -32,17 +32,21 @@ fn joined(alloc: Global, before: &[u8], part: &[u8], after: &[u8]) -> Result<Vec
     Ok(line)
 }
 
-/// How long the texts before and behind a quoted part may be, for a line that takes no memory.
-const SHORT_TEXT: usize = 128;
+/// The greatest length of a line that takes no memory, in bytes.
+pub const SHORT_LINE: usize = 512;
 
-/// How long the part may be, so that the whole fits a piece.
-const SHORT_PART: usize = 256;
+/// Whether a line of three parts is short.
+fn is_short(before: &[u8], part: &[u8], after: &[u8]) -> bool
+    ensures { Decides result (length (before.now ++ part.now ++ after.now) ≤ SHORT_LINE) }
+{
+    before.len() <= SHORT_LINE
+        && part.len() <= SHORT_LINE - before.len()
+        && after.len() <= SHORT_LINE - before.len() - part.len()
+}
 
 /// A short line of three parts. It takes no memory.
 fn short(before: &[u8], part: &[u8], after: &[u8]) -> Piece
-    requires before { length before.now ≤ SHORT_TEXT }
-    requires part { length part.now ≤ SHORT_PART }
-    requires after { length after.now ≤ SHORT_TEXT }
+    requires { length (before.now ++ part.now ++ after.now) ≤ SHORT_LINE }
     ensures { result ≡ before.now ++ part.now ++ after.now }
 {
     let mut line = Piece::new();
@@ -52,7 +56,7 @@ fn short(before: &[u8], part: &[u8], after: &[u8]) -> Piece
     line
 }
 
-/// Sends a line that is put together in memory first, or that of want of memory.
+/// Sends a long line, which is put together in memory first, or that of want of memory.
 fn send_long<E: Sink>(
     alloc: Global,
     err: &mut E,
@@ -61,6 +65,7 @@ fn send_long<E: Sink>(
     part: &[u8],
     after: &[u8],
 ) -> u8
+    requires { SHORT_LINE < length (before.now ++ part.now ++ after.now) }
     ensures told { ReportedOrStarved (sink_seen E.taken E.faults err.old) (sink_seen E.taken E.faults err.new)
         (record { status = code; line = before.now ++ part.now ++ after.now }) result }
     ensures once { WritesOnce (E.taken err.old) (E.taken err.new) }
@@ -84,7 +89,7 @@ fn send_quoting<E: Sink>(
         (record { status = code; line = before.now ++ part.now ++ after.now }) result }
     ensures once { WritesOnce (E.taken err.old) (E.taken err.new) }
 {
-    if before.len() <= SHORT_TEXT && part.len() <= SHORT_PART && after.len() <= SHORT_TEXT {
+    if is_short(before, part, after) {
         send_line(err, code, short(before, part, after).bytes())
     } else {
         send_long(alloc, err, code, before, part, after)
@@ -128,7 +133,7 @@ fn report_refusal<E: Sink>(alloc: Global, err: &mut E, refusal: &Refusal) -> u8
 
 /// Sends the line of what stopped a command, in one write, and answers the status.
 ///
-/// A line that quotes a name of over 256 bytes is put together in memory first; where there is none, want of memory is told in its place.
+/// A line of over 512 bytes is put together in memory first; where there is none, want of memory is told in its place.
 pub fn report<E: Sink>(alloc: Global, err: &mut E, stop: &Stop) -> u8
     ensures told { ReportedOrStarved (sink_seen E.taken E.faults err.old) (sink_seen E.taken E.faults err.new) (stopped_as stop.now) result }
     ensures once { WritesOnce (E.taken err.old) (E.taken err.new) }

@@ -2,7 +2,9 @@
 use Rattle.std.proofs.Common.{◌≡◌, ℕ, ◌+◌, ◌<◌, ◌≤◌, nat_eq, List, [], ◌∷◌, length, Contains, Option, Some, None, Decides, Bool, true, false, refl, sym, ap, subst, ◌∙◌, arith, ◌⊎◌, inl, inr}
 use Rattle.std.proofs.lemmas.Bool.{cases_lt, cases_Bool}
 use Rattle.std.specs.List.{AllByRecursion}
+use Rattle.bm_base.specs.Entry.{Entry}
 use Rattle.tuple_ir.specs.declared.tuple.Tuple.{Tuple}
+use Rattle.tuple_ir.specs.declared.block.Next.{Next}
 use Rattle.tuple_ir.specs.declared.block.Block.{Block}
 use Rattle.line_model.specs.declared.line.Item.{Item}
 use Rattle.line_model.specs.Order.{IsOrderedByProcessor}
@@ -13,10 +15,9 @@ use Rattle.time_interval.specs.Seen.{stands_on}
 use Rattle.time_interval.proofs.Once.{any_of_contains}
 use Rattle.time_interval.proofs.Decided.{decided}
 use Rattle.unit_law.specs.State.{Program}
-use Rattle.stream_image.specs.declared.fault.BlockFault.{BlockFault}
-use Rattle.stream_image.specs.declared.fault.BlockFault.TheVariants as found
 use Rattle.stream_image.specs.declared.fault.ImageFault.{ImageFault}
 use Rattle.stream_image.specs.declared.fault.ImageFault.TheVariants.{Order, Unordered, Target}
+use Rattle.stream_image.specs.declared.fault.ImageFault.TheVariants as fault
 use Rattle.stream_image.specs.declared.order.Wrong.TheVariants.{Turned, Loose}
 use Rattle.stream_image.specs.Line.{AreIncreasing}
 use Rattle.stream_image.specs.Keeps.{AreItems}
@@ -24,11 +25,13 @@ use Rattle.stream_image.specs.Keeps as keeps
 use Rattle.stream_image.specs.declared.given.Stream.{Stream}
 use Rattle.line_model.specs.declared.line.StreamItem.{StreamItem}
 use Rattle.line_model.specs.declared.line.StreamItem.TheVariants.{Do, Wait}
-use Rattle.stream_image.specs.Refused.{in_block, fault_of, line_in, IsRefused, IsOrderFault, IsAccepted, bad_target, target_at, target_from, target_fault}
+use Rattle.stream_image.specs.Refused.{fault_of, line_in, IsRefused, IsOrderFault, IsAccepted, bad_target, target_at, target_from, target_fault}
+use Rattle.stream_image.specs.Firsts.{IsFirst}
 use Rattle.stream_image.specs.Refused.IsRefused.{unkept, unordered}
 use Rattle.stream_image.specs.Refused.IsOrderFault.{turned, loose}
 use Rattle.stream_image.proofs.OrderPairs.{stands_first_is, never_both}
 use Rattle.stream_image.proofs.Accepted.{lined_told, not_both}
+use Rattle.stream_image.proofs.FirstFaults.{told_first}
 use Rattle.stream_file.specs.Fields.{BlockFields, BlockFits, Fields, Fits, StreamFits, ItemFits}
 use Rattle.stream_file.specs.Images.{block_of, head_of, with_fields, program_of, IsTaken, IsDenied, AllTaken, IsFirstDenied, AreTaken, IsFirstCause, denied, astray}
 use Rattle.stream_file.proofs.Loaded.{increasing}
@@ -41,15 +44,21 @@ use Rattle.bm_inputs.proofs.Firsts as firsts
 abbrev pub IsTold : ImageFault → Type 0
 IsTold fault = (r : Refused) × (image_refused fault ≡ Some r)
 
-in_block_told : (n : ℕ) (f : BlockFault) → IsTold (in_block n f)
-in_block_told n (found.Processor p) = (_, refl)
-in_block_told n (found.TupleTwice t) = (_, refl)
-in_block_told n (found.TupleMissing t) = (_, refl)
-in_block_told n (found.Operand t place) = (_, refl)
-in_block_told n (found.Cell c) = (_, refl)
-in_block_told n (found.Waits p w m) = (_, refl)
-in_block_told n (found.MaskEmpty j) = (_, refl)
-in_block_told n (found.MaskBit j) = (_, refl)
+-- so is each first fault of a block
+module _ (block : ℕ) (names : List Entry) (processors : ℕ) (tuples : List Tuple) (next : Next) (streams : List Stream) (masks : List ℕ) where
+  first_told : (f : ImageFault) → IsFirst block names processors tuples next streams masks f → IsTold f
+  first_told (fault.Processor n p) h = (_, refl)
+  first_told (fault.TupleTwice n t) h = (_, refl)
+  first_told (fault.TupleMissing n t) h = (_, refl)
+  first_told (fault.Operand n t place) h = (_, refl)
+  first_told (fault.Cell n c) h = (_, refl)
+  first_told (fault.Waits n p w m) h = (_, refl)
+  first_told (fault.MaskEmpty n j) h = (_, refl)
+  first_told (fault.MaskBit n j) h = (_, refl)
+  first_told (fault.Order n a b) h = absurd h
+  first_told (fault.Unordered n a b) h = absurd h
+  first_told (fault.Target n b) h = absurd h
+  first_told fault.Memory h = absurd h
 
 -- ---- there is one cause
 
@@ -73,12 +82,9 @@ module _ (pace : Pace) (ts : List Tuple) (line : List Item) (n : ℕ) (x y : Ima
   one_order (loose h) (turned k) = absurd (never_both Turned pace line k.a k.b (h.none_turned k.a k.b k.first.stands.conflict) k.first.stands.so)
 
 one_denied : (m : Program) (b : BlockFields) (x y : ImageFault) → IsDenied m b x → IsDenied m b y → x ≡ y
-one_denied m b x y (unkept f e g) (unkept h i j) =
-    let k : Some f ≡ Some h = sym e ∙ i in
-    let s : f ≡ h = cc in
-    g ∙ ap (in_block (length m.blocks)) s ∙ sym j
-one_denied m b x y (unkept f e g) (unordered i k) = let no : Some f ≡ None = sym e ∙ i in absurd (cc)
-one_denied m b x y (unordered e h) (unkept f i g) = let no : Some f ≡ None = sym i ∙ e in absurd (cc)
+one_denied m b x y (unkept e) (unkept i) = let k : Some x ≡ Some y = sym e ∙ i in cc
+one_denied m b x y (unkept e) (unordered i k) = let no : Some x ≡ None = sym e ∙ i in absurd (cc)
+one_denied m b x y (unordered e h) (unkept i) = let no : Some y ≡ None = sym i ∙ e in absurd (cc)
 one_denied m b x y (unordered e h) (unordered i k) = one_order (pace_on m.machine b.tuples) b.tuples (line_in m b.streams b.masks) (length m.blocks) x y h k
 
 one_first_denied : (m : Program) (bs : List BlockFields) (x y : ImageFault) → IsFirstDenied m bs x → IsFirstDenied m bs y → x ≡ y
@@ -141,10 +147,12 @@ module _ (version : ℕ) where
       line : List Item
       line = line_in m b.streams b.masks
 
-      by : (o : Option BlockFault) → fault_of m (block_of b) b.streams b.masks ≡ o → IsTaken m b ⊎ Cause m b
-      by (Some f) e = inr (record { fault = in_block n f; denied_for = unkept f e refl; told = in_block_told n f })
+      by : (o : Option ImageFault) → fault_of m (block_of b) b.streams b.masks ≡ o → IsTaken m b ⊎ Cause m b
+      by (Some f) e =
+          let first = told_first n m.names m.machine.processors b.tuples b.next b.streams b.masks (each_item b.streams fits.open_fits.streams_fit) f e in
+          inr (record { fault = f; denied_for = unkept e; told = first_told n m.names m.machine.processors b.tuples b.next b.streams b.masks f first })
       by None e =
-          let lined = lined_told m.names m.machine.processors (block_of b) b.streams b.masks e most (each_item b.streams fits.open_fits.streams_fit) (increasing 0 b.streams fits.open_fits.rising) fits.open_fits.few_tuples fits.open_fits.few_masks in
+          let lined = lined_told n m.names m.machine.processors (block_of b) b.streams b.masks e most (each_item b.streams fits.open_fits.streams_fit) (increasing 0 b.streams fits.open_fits.rising) fits.open_fits.few_tuples fits.open_fits.few_masks in
           elim (firsts.some_or_none Turned (pace_on m.machine b.tuples) b.tuples (line_in m b.streams b.masks) (turned_or_not (pace_on m.machine b.tuples) b.tuples (line_in m b.streams b.masks) lined.line lined.stand)) [
             | inr f ↦ inr (record { fault = Order n f.a f.b; denied_for = unordered e (turned (record { a = f.a; b = f.b; fault_is = refl; first = f.first })); told = (_, refl) })
             | inl none ↦ elim (firsts.some_or_none Loose (pace_on m.machine b.tuples) b.tuples (line_in m b.streams b.masks) (loose_or_not (pace_on m.machine b.tuples) b.tuples (line_in m b.streams b.masks) lined.line lined.stand)) [

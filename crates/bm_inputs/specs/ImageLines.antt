@@ -1,5 +1,5 @@
 -- What the faults of an image's text are refused with.
-use Rattle.std.specs.Prelude.{ℕ, List, ◌++◌, codes, decimal, Option, Some, None}
+use Rattle.std.specs.Prelude.{ℕ, List, ◌++◌, codes, decimal, Option, None}
 use Rattle.stream_image.specs.declared.fault.ImageFault.{ImageFault}
 use Rattle.stream_image.specs.declared.fault.ImageFault.TheVariants.{Processor, TupleTwice, TupleMissing, Operand, Cell, Waits}
 use Rattle.stream_image.specs.declared.fault.ImageFault.TheVariants.{MaskEmpty, MaskBit, Order, Unordered, Target, Memory}
@@ -7,10 +7,11 @@ use Rattle.stream_file.specs.declared.loading.LoadFault.{LoadFault}
 use Rattle.stream_file.specs.declared.loading.LoadFault.TheVariants as load
 use Rattle.bm_course.specs.declared.status.TheConstants.{IMAGE}
 use Rattle.bm_course.specs.Course.{Refused}
+use Rattle.bm_inputs.specs.SourceLines.{plain}
 
 -- the refusal of an image with this line
 abbrev pub told : List ℕ → Option Refused
-told line = Some (record { status = IMAGE; line = line })
+told line = plain IMAGE line
 
 -- a number in a block
 abbrev pub in_block : List ℕ → ℕ → List ℕ → ℕ → List ℕ → List ℕ

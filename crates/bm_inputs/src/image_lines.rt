@@ -2,22 +2,13 @@
 ghost use Rattle.std.specs.Prelude.{◌≡◌, ◌≤◌, ◌+◌, ◌++◌, length, codes, decimal};
 ghost use Rattle.std.specs.Option.{option_map};
 ghost use Rattle.bm_course.specs.Refusals.{refused_as};
-ghost use Rattle.bm_inputs.specs.ImageLines.{told, image_refused, load_refused};
+ghost use Rattle.bm_inputs.specs.ImageLines.{image_refused, load_refused};
 
+use crate::pieces::plain;
 use bm_base::Piece;
 use bm_course::{Refusal, status};
 use stream_file::LoadFault;
 use stream_image::ImageFault;
-
-/// A refusal with this line.
-fn plain(line: Piece) -> Option<Refusal<'static>>
-    ensures { option_map refused_as result ≡ told line }
-{
-    Some(Refusal::Plain {
-        status: status::IMAGE,
-        line,
-    })
-}
 
 /// The number of a block, and a number in it, each behind words.
 fn in_block(number: &[u8], block: u32, what: &[u8], value: u32, after: &[u8]) -> Piece
@@ -124,68 +115,83 @@ fn image_refusal(fault: ImageFault) -> Option<Refusal<'static>>
     ensures { option_map refused_as result ≡ image_refused fault }
 {
     match fault {
-        ImageFault::Processor { block, processor } => plain(in_block(
-            b"error 17: block ",
-            block,
-            b" processor ",
-            u32::from(processor),
-            b"\n",
-        )),
-        ImageFault::TupleTwice { block, tuple } => plain(in_block(
-            b"error 18: block ",
-            block,
-            b" tuple ",
-            u32::from(tuple),
-            b" twice\n",
-        )),
-        ImageFault::TupleMissing { block, tuple } => plain(in_block(
-            b"error 19: block ",
-            block,
-            b" tuple ",
-            u32::from(tuple),
-            b" missing\n",
-        )),
+        ImageFault::Processor { block, processor } => plain(
+            status::IMAGE,
+            in_block(
+                b"error 17: block ",
+                block,
+                b" processor ",
+                u32::from(processor),
+                b"\n",
+            ),
+        ),
+        ImageFault::TupleTwice { block, tuple } => plain(
+            status::IMAGE,
+            in_block(
+                b"error 18: block ",
+                block,
+                b" tuple ",
+                u32::from(tuple),
+                b" twice\n",
+            ),
+        ),
+        ImageFault::TupleMissing { block, tuple } => plain(
+            status::IMAGE,
+            in_block(
+                b"error 19: block ",
+                block,
+                b" tuple ",
+                u32::from(tuple),
+                b" missing\n",
+            ),
+        ),
         ImageFault::Operand {
             block,
             tuple,
             place,
-        } => plain(operand_line(block, tuple, place)),
-        ImageFault::Cell { block, cell } => plain(in_block(
-            b"error 21: block ",
-            block,
-            b" cell ",
-            u32::from(cell),
-            b"\n",
-        )),
+        } => plain(status::IMAGE, operand_line(block, tuple, place)),
+        ImageFault::Cell { block, cell } => plain(
+            status::IMAGE,
+            in_block(
+                b"error 21: block ",
+                block,
+                b" cell ",
+                u32::from(cell),
+                b"\n",
+            ),
+        ),
         ImageFault::Waits {
             block,
             processor,
             waits,
             masks,
-        } => plain(waits_line(block, processor, waits, masks)),
-        ImageFault::MaskEmpty { block, mask } => plain(in_block(
-            b"error 23: block ",
-            block,
-            b" mask ",
-            u32::from(mask),
-            b" is empty\n",
-        )),
-        ImageFault::MaskBit { block, mask } => plain(in_block(
-            b"error 24: block ",
-            block,
-            b" mask ",
-            u32::from(mask),
-            b" has a foreign bit\n",
-        )),
-        ImageFault::Order { block, a, b } => plain(order_line(block, a, b)),
-        ImageFault::Unordered { block, a, b } => plain(pair_line(block, a, b)),
-        ImageFault::Target { block, target } => plain(in_block(
-            b"error 27: block ",
-            block,
-            b" target ",
-            target,
-            b"\n",
-        )),
+        } => plain(status::IMAGE, waits_line(block, processor, waits, masks)),
+        ImageFault::MaskEmpty { block, mask } => plain(
+            status::IMAGE,
+            in_block(
+                b"error 23: block ",
+                block,
+                b" mask ",
+                u32::from(mask),
+                b" is empty\n",
+            ),
+        ),
+        ImageFault::MaskBit { block, mask } => plain(
+            status::IMAGE,
+            in_block(
+                b"error 24: block ",
+                block,
+                b" mask ",
+                u32::from(mask),
+                b" has a foreign bit\n",
+            ),
+        ),
+        ImageFault::Order { block, a, b } => plain(status::IMAGE, order_line(block, a, b)),
+        ImageFault::Unordered { block, a, b } => plain(status::IMAGE, pair_line(block, a, b)),
+        ImageFault::Target { block, target } => plain(
+            status::IMAGE,
+            in_block(b"error 27: block ", block, b" target ", target, b"\n"),
+        ),
         ImageFault::Memory => None,
     }
 }
@@ -206,7 +212,7 @@ pub(crate) fn load_refusal(fault: LoadFault) -> Option<Refusal<'static>>
     ensures { option_map refused_as result ≡ load_refused fault }
 {
     match fault {
-        LoadFault::Text { line } => plain(text_line(line)),
+        LoadFault::Text { line } => plain(status::IMAGE, text_line(line)),
         LoadFault::Image { fault } => image_refusal(fault),
         LoadFault::Memory => None,
     }

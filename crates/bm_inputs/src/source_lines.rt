@@ -4,22 +4,15 @@ ghost use Rattle.std.specs.Option.{option_map};
 ghost use Rattle.std.specs.Fmt.{signed_decimal};
 ghost use Rattle.src_parser.specs.Wanted.{want_text};
 ghost use Rattle.bm_course.specs.Refusals.{refused_as};
-ghost use Rattle.bm_inputs.specs.SourceLines.{plain, lex_refused, parse_refused, name_refused, source_refused};
+ghost use Rattle.bm_inputs.specs.SourceLines.{lex_refused, parse_refused, name_refused, source_refused};
 
-use crate::pieces::{numbered, signed, twice_numbered};
+use crate::pieces::{numbered, plain, signed, twice_numbered};
 use bm_base::Piece;
 use bm_course::{Refusal, status};
 use src_front::SourceFault;
 use src_lexer::LexFault;
 use src_names::NameFault;
 use src_parser::{ParseFault, Want};
-
-/// A refusal with this line.
-fn plain(code: u8, line: Piece) -> Option<Refusal<'static>>
-    ensures { option_map refused_as result ≡ plain code line }
-{
-    Some(Refusal::Plain { status: code, line })
-}
 
 /// The line of a token that was not expected.
 fn expected_line(at: u32, what: Want) -> Piece

@@ -13,7 +13,8 @@ use Rattle.unit_law.specs.Steps.{Action, Finish, Fire, Start, Branch, Advance, E
 use Rattle.unit_law.specs.Fit.{IsFit}
 use Rattle.unit_law.specs.Determinate.{sum_below}
 use Rattle.unit_law.proofs.Sums.{sum_le, sum_falls}
-use Rattle.unit_law.proofs.Inside.{IsWorkAt, set_all, due_within, waits_parts, wait_item, fired_all}
+use Rattle.unit_law.specs.Inside.{IsWorkAt}
+use Rattle.unit_law.proofs.Inside.{set_all, due_within, waits_parts, wait_item, fired_all}
 use Rattle.unit_law.proofs.Ordered.{entered_at, started_mode}
 use Rattle.unit_law.proofs.Sums.{sum_same}
 use Rattle.unit_law.proofs.Meets.{started_clock}

@@ -8,7 +8,7 @@ use Rattle.unit_law.specs.State.{Code, Program, In, State, Processor, Work, Idle
 use Rattle.unit_law.specs.Units.{has_unfired}
 use Rattle.unit_law.specs.Fit.{AllFit}
 use Rattle.unit_law.specs.Determinate.{HasFinished}
-use Rattle.unit_law.proofs.Inside.{Inside}
+use Rattle.unit_law.specs.Inside.{Inside}
 use Rattle.unit_law.proofs.Ordered.{Holds, run_holds}
 use Rattle.unit_law.proofs.Waiters.{waiters_unfired}
 use Rattle.unit_law.proofs.Waiting.{waiting_has}

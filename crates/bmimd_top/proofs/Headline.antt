@@ -19,6 +19,7 @@ use Rattle.stream_image.specs.Laws.{ImagesAreDeterminate}
 use Rattle.bm_inputs.specs.Images.{loaded_course}
 use Rattle.bm_inputs.proofs.ImageCourses.{loaded-bounds}
 use Rattle.run_text.specs.Serial.{RunsMeanTheSerialOrder, SerialEndsAreTold}
+use Rattle.run_text.specs.TraceLaws.{TracesMeanTheSerialOrder, SerialEndsAreTraced}
 use Rattle.bm_inputs.specs.Beginning.{begun_course}
 use Rattle.bm_inputs.proofs.Beginnings.{IsRight, begun-determined, begun-right}
 use Rattle.bmimd_top.specs.Running.{Runs, Traces, sourced_course, counts_text, kind_of}
@@ -30,6 +31,7 @@ use Rattle.soak_text.specs.Agree.{SoaksAgree}
 use Rattle.bmimd_top.specs.Command.{eval_course, go_course, compile_course, show_course, run_course, trace_course, check_course}
 use Rattle.bmimd_top.specs.OneStep.{LawsOfReadings}
 use Rattle.bmimd_top.specs.Enough.{EnoughTicksEndRuns}
+use Rattle.bmimd_top.specs.ReadBack.{ImagesAreReadBack}
 use Rattle.bmimd_top.specs.Headline.{HasRun, HasEvaluated, HasCompiled, HasShown, HasRunImage, HasTraced, HasChecked, HasSoaked}
 use Rattle.bmimd_top.proofs.Sourced.{sourced-right}
 use Rattle.bmimd_top.proofs.Given.{judged}
@@ -131,7 +133,7 @@ module _ (laws : LawsOfReadings) (before now : Seen) where
         }
 
   -- `compile`
-  module _ (name out : List ℕ) (status : ℕ) where
+  module _ (read_back : ImagesAreReadBack) (name out : List ℕ) (status : ℕ) where
     pub has_compiled : (word : MachineOf) → HasWritten before now (compile_course name word out) status → HasCompiled before now name word out status
     has_compiled word w =
         let told = before.files.held in
@@ -150,6 +152,7 @@ module _ (laws : LawsOfReadings) (before now : Seen) where
           faithful = i.made.0.faithful;
           summary = h.x.summary;
           counted = i.made.1;
+          read_back = read_back i.source.bytes i.program i.machine h.x.image i.source.whole i.source.means i.lawful i.made.0;
           held = subst (λ x. Keeps (holding before.files.held x.file) now.files.held) p w.files.held;
           out = subst (λ x. Takes before.out.taken now.out.taken x.text.lines) p w.out;
           err = w.err;
@@ -209,7 +212,7 @@ module _ (laws : LawsOfReadings) (before now : Seen) where
         }
 
   -- `trace`
-  module _ (determinate : ImagesAreDeterminate) (name : List ℕ) (run : RunWordsOf) (status : ℕ) (w : HasWritten before now (trace_course name run) status) where
+  module _ (determinate : ImagesAreDeterminate) (means : TracesMeanTheSerialOrder) (ends : SerialEndsAreTraced) (name : List ℕ) (run : RunWordsOf) (status : ℕ) (w : HasWritten before now (trace_course name run) status) where
     pub has_traced : HasTraced before now name run status
     has_traced =
         let told = before.files.held in
@@ -219,15 +222,20 @@ module _ (laws : LawsOfReadings) (before now : Seen) where
         let k = begun-read told laws.begun images run (laws.loaded name) (loaded-consumes name) g h.x h.first in
         let q : IsRight h.x = (begun-right run laws.memories images (loaded-bounds name)).gives h.first.contents [] h.x h.first.gave in
         let t = (judged (Traces run h.x) h.second.contents [] w.product h.second.gave).0 in
+        let d : IsDeterminate h.x.image = determinate h.x.image q.image in
+        let s : status ≡ t.0.status = w.status_is ∙ ap (λ x. x.text.status) t.2 in
+        let fit = sound_fit h.x.image q.image.sound in
         record {
           begins = h.x;
-          begun = record { loaded = loaded-read told name h.x.image k.image; determinate = determinate h.x.image q.image; timed = k.timed; given = k.given };
+          begun = record { loaded = loaded-read told name h.x.image k.image; determinate = d; timed = k.timed; given = k.given };
           text = t.0;
           traces = t.1;
+          serial = means h.x.image (kind_of run.unit) h.x.script h.x.memory run.budget t.0 fit q.image.machine.times d q.memory t.1;
           out = subst (λ x. Takes before.out.taken now.out.taken x.text.lines) t.2 w.out;
           err = w.err;
           held = kept before now (trace_course name run) status w (ap (λ x. x.file) t.2);
-          status_is = w.status_is ∙ ap (λ x. x.text.status) t.2 ∙ ap (λ x. x.status) t.1.text_is;
+          status_is = s ∙ ap (λ x. x.status) t.1.text_is;
+          ends = λ c n e b l. s ∙ ends h.x.image (kind_of run.unit) h.x.script h.x.memory run.budget c n t.0 fit q.image.machine.times d q.memory e b l t.1;
         }
 
   -- `check`

@@ -7,3 +7,4 @@ pub mod Leads
 pub mod Given
 pub mod Readings
 pub mod Headline
+pub mod ReadBack

@@ -39,6 +39,7 @@ use Rattle.show_text.specs.Listing.{listing}
 use Rattle.run_text.specs.EvalText.{eval_text}
 use Rattle.run_text.specs.RunText.{run_status}
 use Rattle.run_text.specs.Serial.{MeansSerially}
+use Rattle.run_text.specs.Told.{prints_of}
 use Rattle.run_text.specs.declared.kind.UnitKind.{UnitKind}
 use Rattle.soak_text.specs.declared.pace.Pace.{Pace}
 use Rattle.soak_text.specs.Soak.{IsSoak, outcome_of}
@@ -161,16 +162,20 @@ pub record HasRunImage (before now : Seen) (name : List ℕ) (run : RunWordsOf) 
       → StandsAtMost c (outcome begins.image.blocks begins.memory k).trail → c * pass_time begins.image ≤ run.budget → status ≡ 0
 
 -- After `trace` with status 0 or 8: the run begins so; the output took the trace of its canonical run on this unit, one write a line, and
--- nothing else was written. The status is 0 where the run has ended by the budget, else 8.
+-- nothing else was written. The words that it prints are a prefix of those of its blocks' serial meaning from this memory; where the run
+-- has ended, that has ended with these words and this memory. The status is as after `run`.
 pub record HasTraced (before now : Seen) (name : List ℕ) (run : RunWordsOf) (status : ℕ) : Type 0 where
   pub begins : Beginning
   pub begun : ReadsBeginning before.files.held name run begins
   pub text : Output
   pub traces : IsTraceBy run begins text
+  pub serial : MeansSerially begins.image begins.memory run.budget (prints_of traces.events) traces.end
   pub out : Takes before.out.taken now.out.taken text.lines
   pub err : now.err ≡ before.err
   pub held : Keeps before.files.held now.files.held
   pub status_is : status ≡ run_status traces.end
+  pub ends : (c k : ℕ) → (outcome begins.image.blocks begins.memory k).next ≡ None
+      → StandsAtMost c (outcome begins.image.blocks begins.memory k).trail → c * pass_time begins.image ≤ run.budget → status ≡ 0
 
 -- After `check` with status 0 or 8: the file is the text of an image, and the output took one line, of its counts. Nothing else was
 -- written. The status is 0.
@@ -201,8 +206,8 @@ pub record HasShown (before now : Seen) (name : List ℕ) (word : MachineOf) (st
   pub status_is : status ≡ 0
 
 -- After `compile` with status 0 or 8: the source reads as a program and the word names a lawful machine; the image that the one is
--- compiled to on the other means what the program means in every run. The file holds the text of that image, whole, and no other held
--- file changed; the output took the lines of the program's summary, one write each, and nothing else was written. The status is 0.
+-- compiled to on the other means what the program means in every run. The file holds the text of that image, whole, by which `run` reads
+-- it, and no other held file changed; the output took the lines of the program's summary, one write each, and nothing else was written. The status is 0.
 pub record HasCompiled (before now : Seen) (name : List ℕ) (word : MachineOf) (file : List ℕ) (status : ℕ) : Type 0 where
   pub program : RProgram
   pub source : ReadsProgram before.files.held name program
@@ -214,6 +219,7 @@ pub record HasCompiled (before now : Seen) (name : List ℕ) (word : MachineOf) 
   pub faithful : IsFaithful image program
   pub summary : Summary
   pub counted : IsSummaryOf machine program summary
+  pub read_back : IsTextOfImage (image_file file image).bytes image
   pub held : Keeps (holding before.files.held (Some (image_file file image))) now.files.held
   pub out : Takes before.out.taken now.out.taken (summary_lines summary)
   pub err : now.err ≡ before.err

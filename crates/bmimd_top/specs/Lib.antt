@@ -6,4 +6,5 @@ pub mod Command
 pub mod OneStep
 pub mod Clauses
 pub mod Enough
+pub mod ReadBack
 pub mod Headline

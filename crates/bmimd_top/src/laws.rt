@@ -6,6 +6,7 @@ ghost use Rattle.bm_course.specs.Laws.{HasEnd};
 ghost use Rattle.bmimd_top.specs.OneStep.{CoursesHaveOneStep, LawsOfReadings};
 ghost use Rattle.bmimd_top.specs.Command.{course_of};
 ghost use Rattle.bmimd_top.specs.Enough.{EnoughTicksEndRuns};
+ghost use Rattle.bmimd_top.specs.ReadBack.{ImagesAreReadBack};
 
 use bm_inputs::{
     beginnings_have_one_step, beginnings_settle, images_have_one_step, images_settle,
@@ -13,10 +14,12 @@ use bm_inputs::{
     memories_are_right,
 };
 use bm_words::requests_are_in_range;
-use compiled_image::{programs_have_images, programs_have_summaries};
+use compiled_image::{images_have_ranges, programs_have_images, programs_have_summaries};
 use run_text::{bounded_runs_end, kinds_have_one_trace, runs_have_one_text, runs_have_some_text};
 use show_text::{programs_are_shown, programs_are_shown_once};
 use soak_text::soaks_settle;
+use src_front::programs_are_read_right;
+use stream_file::images_have_texts;
 
 /// After the same contents, what words ask for comes to at most one step, and so do its parts.
 pub fn words_have_one_step()
@@ -72,4 +75,13 @@ pub fn enough_ticks_end_a_run()
 {
     programs_have_images();
     bounded_runs_end();
+}
+
+/// What `compile` writes, `run` reads: the text that is written of a source's image is this image's.
+pub fn images_are_read_back()
+    ensures { ImagesAreReadBack }
+{
+    programs_are_read_right();
+    images_have_ranges();
+    images_have_texts();
 }

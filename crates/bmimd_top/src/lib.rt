@@ -32,8 +32,10 @@ use bm_course::{Refusal, Stop, report};
 use bm_io::{Files, Sink};
 use bm_words::{Command, match_words};
 use laws::laws_of_readings;
-pub use laws::{enough_ticks_end_a_run, words_have_an_end, words_have_one_step};
-use run_text::runs_mean_the_serial_order;
+pub use laws::{
+    enough_ticks_end_a_run, images_are_read_back, words_have_an_end, words_have_one_step,
+};
+use run_text::{runs_mean_the_serial_order, traces_mean_the_serial_order};
 use soak_text::soaks_agree;
 use std::alloc::Global;
 use stream_image::images_are_determinate;
@@ -141,8 +143,10 @@ pub fn bmimd<F: Files, O: Sink, E: Sink>(
     words_have_one_step();
     laws_of_readings();
     enough_ticks_end_a_run();
+    images_are_read_back();
     images_are_determinate();
     runs_mean_the_serial_order();
+    traces_mean_the_serial_order();
     soaks_agree();
     call(alloc, words, files, out, err)
 }

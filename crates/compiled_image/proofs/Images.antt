@@ -24,6 +24,7 @@ use Rattle.stream_image.proofs.LineStreams.{own_line, even_line}
 use Rattle.compiled_image.specs.declared.planned.Plan.{Plan}
 use Rattle.compiled_image.specs.Planned.{IsPlanned}
 use Rattle.compiled_image.proofs.Machines.{has_times}
+use Rattle.compiled_image.proofs.InOrder.{later_within}
 use Rattle.compiled_image.proofs.Plans.{in_order, one}
 use Rattle.compiled_image.specs.Compiled.{ArePlans, line_in, program_of}
 use Rattle.compiled_image.proofs.Kept.{plan_kept}
@@ -46,15 +47,6 @@ as_many machine [] [] h = refl
 as_many machine [] (p ∷ ps) h = absurd h
 as_many machine (x ∷ xs) [] h = absurd h
 as_many machine (x ∷ xs) (p ∷ ps) h = ap suc (as_many machine xs ps h.1)
-
--- the later tuple of a conflict is one of the block's
-later_within : (ts : List Tuple) (a b : ℕ) → Conflict ts a b → b < length ts
-later_within ts a b k = go (slice_get ts a) (slice_get ts b) k.shared refl
-  where
-    go : (o q : Option Tuple) → clash ts a o q ≡ true → slice_get ts b ≡ q → b < length ts
-    go None q h e = absurd (both_ways false refl h)
-    go (Some x) None h e = absurd (both_ways false refl h)
-    go (Some x) (Some y) h e = slice_get_within ts b y e
 
 pub lawful : (machine : Machine) → IsMachine machine → IsLawful machine
 lawful machine h =

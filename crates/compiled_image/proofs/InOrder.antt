@@ -22,7 +22,7 @@ use Rattle.compiled_image.specs.PlanLaws.{LinesInOrderAreSound, AllInOrder, Prog
 use Rattle.compiled_image.proofs.Machines.{has_times}
 
 -- the later tuple of a conflict is one of the block's
-later_within : (ts : List Tuple) (a b : ℕ) → Conflict ts a b → b < length ts
+pub later_within : (ts : List Tuple) (a b : ℕ) → Conflict ts a b → b < length ts
 later_within ts a b k = go (slice_get ts a) (slice_get ts b) k.shared refl
   where
     go : (o q : Option Tuple) → clash ts a o q ≡ true → slice_get ts b ≡ q → b < length ts

@@ -10,3 +10,4 @@ pub mod FrontFacts
 pub mod Machines
 pub mod Plans
 pub mod InOrder
+pub mod Ranging

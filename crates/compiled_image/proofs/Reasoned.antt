@@ -13,11 +13,10 @@ use Rattle.time_interval.specs.Bounds.{Pace, lo_of, up_of, front_of_run, process
 use Rattle.time_interval.specs.Lines.{IsItem, IsLine, tuples}
 use Rattle.time_interval.specs.Ordered.{IsOrdered, IsInTime, IsFirstInTime, IsReference, ComesBefore, IsReason}
 use Rattle.time_interval.specs.Ordered.IsReason.{processor, barrier, time}
-use Rattle.time_interval.specs.Seen.{stands_on, seen_along}
+use Rattle.time_interval.specs.Seen.{StandsBehind, stands_on, seen_along}
 use Rattle.time_interval.proofs.Fronts.{front_of_run_all}
 use Rattle.time_interval.proofs.Once.{stands_behind, any_of_contains}
 use Rattle.time_interval.proofs.OrderFacts.{on_processor, not_on_processor, by_barriers, not_by_barriers, no_reason}
-use Rattle.time_interval.proofs.SeenFacts.{StandsBehind}
 
 module _ (pace : Pace) (line : List Item) (g i : ℕ) where
   in_time_or_not : (r : Reference) → IsInTime pace line g i r ⊎ (¬ IsInTime pace line g i r)

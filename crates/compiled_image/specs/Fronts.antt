@@ -7,8 +7,7 @@ use Rattle.time_interval.specs.declared.reference.Reference.{Reference}
 use Rattle.time_interval.specs.declared.reference.Reason.{Reason}
 use Rattle.time_interval.specs.declared.reference.Reason.TheVariants.{SameProcessor, ByBarrier, ByTime}
 use Rattle.time_interval.specs.Lines.{IsItem}
-use Rattle.time_interval.specs.Seen.{stands_on, seen_along}
-use Rattle.time_interval.proofs.SeenFacts.{StandsBehind}
+use Rattle.time_interval.specs.Seen.{StandsBehind, stands_on, seen_along}
 
 -- behind a front of the line stands tuple t; the sets are those of the tuples of the front on its processor, and of those that it has
 -- seen there, on its own or behind barriers

@@ -6,5 +6,6 @@ pub mod Compiled
 pub mod Reasons
 pub mod Summarised
 pub mod Laws
+pub mod Ranges
 pub mod Fronts
 pub mod Counts

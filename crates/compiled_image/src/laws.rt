@@ -6,8 +6,9 @@ ghost use Rattle.src_names.specs.RProgram.{RProgram};
 ghost use Rattle.compiled_image.specs.Compiled.{IsCompiled};
 ghost use Rattle.compiled_image.specs.Laws.{ProgramsHaveImages, ProgramsHaveOneImage, ImagesAreCompiled, ImagesRunTheirPlans};
 ghost use Rattle.compiled_image.specs.Laws.{ProgramsHaveASummary, ProgramsHaveOneSummary, SummariesAddUp};
+ghost use Rattle.compiled_image.specs.Ranges.{ImagesHaveRanges};
 
-use tuple_lower::lowered_blocks_mean_their_programs;
+use tuple_lower::{lowered_blocks_mean_their_programs, lowered_tuples_fit};
 
 /// A program that is right and has at most 120 nodes in each statement is compiled to exactly one
 /// image on each lawful machine, which means what the program means; and each image keeps what its
@@ -21,6 +22,13 @@ pub fn programs_have_images()
     ensures times { (machine : Machine) (p : RProgram) (m : Program) → IsMachine machine → IsCompiled machine p m → HasTimes m }
 {
     lowered_blocks_mean_their_programs();
+}
+
+/// Where the numbers of a program are in range, so are those of its image.
+pub fn images_have_ranges()
+    ensures { ImagesHaveRanges }
+{
+    lowered_tuples_fit();
 }
 
 /// Each block of an image has the streams and the masks of its plan's reduced line, which cannot be

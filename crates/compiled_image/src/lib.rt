@@ -21,7 +21,9 @@ mod planned;
 mod planning;
 
 pub use compiling::{Compiled, compile};
-pub use laws::{images_run_their_plans, programs_have_images, programs_have_summaries};
+pub use laws::{
+    images_have_ranges, images_run_their_plans, programs_have_images, programs_have_summaries,
+};
 pub use plan_laws::{laws_of_plans, planned_programs_are_determinate};
 pub use planned::Plan;
 pub use planning::plan;

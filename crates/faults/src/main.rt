@@ -1,14 +1,4 @@
-//! Runs calls over files and sinks in memory, with planned faults. Each line of `plan.txt` is one of these:
-//!
-//!     hold NAME TEXT           holds a file; `\n` in the text stands for the end of a line
-//!     many COUNT NAME TEXT     holds a file of the text, so many times
-//!     files N                  call N of the files, counted from the last `new`, fails
-//!     out N K                  write N of the next call's output fails after K bytes
-//!     err N K                  write N of the next call's errors fails after K bytes
-//!     starve out N             write N of the next call's output finds no memory; so for err
-//!     call WORD ..             the call with these words
-//!     shown NAME               what a file holds
-//!     new                      from here on no file is held
+//! Runs calls over files and sinks in memory, with planned faults, as `plan.txt` has them; `step` says what a line is.
 //!
 //! A call prints its words, what the output took, what the errors took, and the status with the counts of writes.
 #![tactic(auto)]
@@ -96,7 +86,17 @@ fn call(rt: &HostRuntime, desk: &mut Desk, words: &str) -> io::Result<()> {
     )
 }
 
-/// What one line of the plan says is done.
+/// What one line of the plan says is done. A line is one of these:
+///
+///     hold NAME TEXT           holds a file; `\n` in the text stands for the end of a line
+///     many COUNT NAME TEXT     holds a file of the text, so many times
+///     files N                  call N of the files, counted from the last `new`, fails
+///     out N K                  write N of the next call's output fails after K bytes
+///     err N K                  write N of the next call's errors fails after K bytes
+///     starve out N             write N of the next call's output finds no memory; so for err
+///     call WORD ..             the call with these words
+///     shown NAME               what a file holds
+///     new                      from here on no file is held
 fn step(rt: &HostRuntime, desk: &mut Desk, line: &str) -> io::Result<()> {
     let alloc = rt.alloc();
     let (word, rest) = cut(line);

@@ -4,6 +4,8 @@
 #[cfg(test)]
 mod bounds_tests;
 #[cfg(test)]
+mod fixtures;
+#[cfg(test)]
 mod line_tests;
 #[cfg(test)]
 mod reduction_tests;

@@ -1,10 +1,11 @@
 // Schedules of small blocks, worked by hand.
-use bm_base::{Bin, Interval, Spec, Un};
+use crate::fixtures::{block_of, machine};
+use bm_base::{Bin, Un};
 use dependence::conflicts;
 use list_schedule::*;
 use std::alloc::{AllocError, Global};
 use std::test::Fail;
-use tuple_ir::{Block, Next, Tuple, Tuples};
+use tuple_ir::Tuple;
 
 fn word(value: i64) -> Tuple {
     Tuple::Const { value }
@@ -12,25 +13,6 @@ fn word(value: i64) -> Tuple {
 
 fn negation(a: u8) -> Tuple {
     Tuple::One { op: Un::Neg, a }
-}
-
-// The default times.
-fn machine(processors: u8) -> Option<Spec> {
-    Spec::new(
-        processors,
-        0,
-        [
-            Interval { least: 1, most: 1 },
-            Interval { least: 1, most: 4 },
-            Interval { least: 1, most: 2 },
-            Interval { least: 1, most: 6 },
-            Interval { least: 1, most: 4 },
-            Interval { least: 1, most: 1 },
-            Interval { least: 2, most: 3 },
-            Interval { least: 4, most: 12 },
-            Interval { least: 1, most: 1 },
-        ],
-    )
 }
 
 // Whether the tuples have these starts and processors, and this makespan, work and longest.
@@ -45,17 +27,10 @@ fn has_schedule(
     if tuples.len() > 128 || starts.len() != tuples.len() || places.len() != tuples.len() {
         return Ok(false);
     }
-    let Some(spec) = machine(processors) else {
+    let Some(spec) = machine(processors, 0) else {
         return Ok(false);
     };
-    let mut list = Tuples::new(alloc);
-    for tuple in tuples {
-        list.push(*tuple)?;
-    }
-    let block = Block {
-        tuples: list,
-        next: Next::Halt,
-    };
+    let block = block_of(alloc, tuples)?;
     let deps = conflicts(alloc, &block)?;
     let plan = schedule(alloc, &block, &deps, &spec)?;
     for t in 0..tuples.len() as u8 {
@@ -66,21 +41,22 @@ fn has_schedule(
     Ok([plan.makespan(), plan.work(), plan.longest()] == numbers)
 }
 
+// x = 2 + 3; print x;
+const SUM: [Tuple; 6] = [
+    Tuple::Const { value: 2 },
+    Tuple::Const { value: 3 },
+    Tuple::Two {
+        op: Bin::Add,
+        a: 0,
+        b: 1,
+    },
+    Tuple::Store { name: 0, value: 2 },
+    Tuple::Load { name: 0 },
+    Tuple::Print { value: 4 },
+];
+
 #[test]
 fn blocks_have_their_schedules(rt: HostRuntime) -> Result<(), Fail> {
-    // x = 2 + 3; print x;
-    let sum = [
-        word(2),
-        word(3),
-        Tuple::Two {
-            op: Bin::Add,
-            a: 0,
-            b: 1,
-        },
-        Tuple::Store { name: 0, value: 2 },
-        Tuple::Load { name: 0 },
-        Tuple::Print { value: 4 },
-    ];
     // two chains of one height; the one that is taken first goes on where its constant is
     let chains = [word(1), word(2), negation(1), negation(0)];
     let words = [word(1), word(2), word(3)];
@@ -88,7 +64,7 @@ fn blocks_have_their_schedules(rt: HostRuntime) -> Result<(), Fail> {
         (
             "two processors",
             2,
-            &sum,
+            &SUM,
             &[0, 0, 1, 2, 4, 8],
             &[0, 1, 0, 0, 0, 0],
             [9, 10, 9],
@@ -96,7 +72,7 @@ fn blocks_have_their_schedules(rt: HostRuntime) -> Result<(), Fail> {
         (
             "one processor",
             1,
-            &sum,
+            &SUM,
             &[0, 1, 2, 3, 5, 9],
             &[0, 0, 0, 0, 0, 0],
             [10, 10, 9],
@@ -129,18 +105,12 @@ fn blocks_have_their_schedules(rt: HostRuntime) -> Result<(), Fail> {
     Ok(())
 }
 
-// x = 2; and a load of x, which follows the store of its variable.
+// The load follows the store of its variable.
 #[test]
 fn tuples_are_linked_to_the_last_that_touches_the_same(rt: HostRuntime) -> Result<(), Fail> {
-    let mut tuples = Tuples::new(rt.alloc());
-    tuples.push(word(2))?;
-    tuples.push(Tuple::Store { name: 0, value: 0 })?;
-    tuples.push(Tuple::Load { name: 0 })?;
-    let block = Block {
-        tuples,
-        next: Next::Halt,
-    };
+    let block = block_of(rt.alloc(), &SUM)?;
     let deps = conflicts(rt.alloc(), &block)?;
-    assert!(rt; deps.links() == [255, 255, 1].as_slice() && deps.len() == 3 && deps.pairs() == 2);
+    let links = deps.links() == [255, 255, 255, 255, 3, 255].as_slice();
+    assert!(rt; links && deps.len() == 6 && deps.pairs() == 5);
     Ok(())
 }

@@ -1,21 +1,9 @@
 // Worked orders of firing on both units.
-ghost use Rattle.std.specs.Prelude.{◌≡◌, ◌<◌, ◌^◌, bit_or};
-
-use bm_base::Mask;
+use crate::fixtures::pair;
 use dbm_unit::Dbm;
 use sbm_unit::Sbm;
 use std::test::Fail;
 use unit_law::BarrierUnit;
-
-fn pair(p: u8, q: u8) -> Mask
-    requires { (p < 128) × (q < 128) }
-    ensures { result ≡ bit_or (bit_or 0 (2 ^ p)) (2 ^ q) }
-{
-    let mut mask = Mask::empty();
-    mask.insert(p);
-    mask.insert(q);
-    mask
-}
 
 // A mask fires before another that stands in front of it, where they share no member. Of two that
 // share one, the second waits for the first.

@@ -11,9 +11,9 @@ ghost use Rattle.mask_merge.specs.Search.{edit_of, AllStand, IsOnTurn, IsFirstEd
 
 use bm_base::{MOST_TUPLES, Spec};
 use dependence::Deps;
-use line_model::{Items, Line};
+use line_model::Line;
 use std::alloc::{AllocError, Global};
-use time_interval::{Bounds, Edit};
+use time_interval::{Bounds, Edit, copy_of};
 use tuple_ir::Block;
 
 /// The kinds of edits.
@@ -119,17 +119,6 @@ fn next_edit(bounds: &mut Bounds, deps: &Deps, in_order: bool) -> Option<Edit>
         Some(edit) => Some(edit),
         None => first_of(bounds, deps, Kind::Merging, in_order),
     }
-}
-
-/// The line again.
-fn copy_of(alloc: Global, line: &Line) -> Result<Line, AllocError>
-    ensures { IfOk result (λ copy. copy.items ≡ line.now.items) }
-{
-    let mut items = Items::new(alloc);
-    for item in line.items.items() {
-        items.push(*item)?;
-    }
-    Ok(Line { items })
 }
 
 /// The reduced line of a line in which each conflicting pair of the block is ordered. It fails only

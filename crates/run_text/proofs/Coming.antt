@@ -50,7 +50,7 @@ each_on counts Branch = refl
 each_on counts Advance = refl
 each_on counts Enter = refl
 
-zero_at : (n p : ℕ) → let none : ℕ = 0 in get_or (replicate n none) p none ≡ none
+pub zero_at : (n p : ℕ) → let none : ℕ = 0 in get_or (replicate n none) p none ≡ none
 zero_at zero p = refl
 zero_at (suc n) zero = refl
 zero_at (suc n) (suc p) = zero_at n p

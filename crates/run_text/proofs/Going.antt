@@ -45,7 +45,7 @@ module _ (choice : Choice) (durations : Durations) (m : Program) (choice0 : Choi
       stands choice0 durations0 m0 memory s counts until h early w
 
 -- ---- what was given on
-prints_append : (xs ys : List Event) → prints_of (xs ++ ys) ≡ prints_of xs ++ prints_of ys
+pub prints_append : (xs ys : List Event) → prints_of (xs ++ ys) ≡ prints_of xs ++ prints_of ys
 prints_append [] ys = refl
 prints_append (x ∷ xs) ys = ap (λ l. printed_by x ++ l) (prints_append xs ys) ∙ sym (append_assoc (printed_by x) (prints_of xs) (prints_of ys))
 

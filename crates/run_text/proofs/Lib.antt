@@ -9,6 +9,7 @@ pub mod Going
 pub mod Reaching
 pub mod WorkedRun
 pub mod Told
+pub mod Printed
 pub mod Traces
 pub mod OneEvent
 pub mod Evaluating

@@ -57,7 +57,7 @@ module _ (choice : Choice) (durations : Durations) (m : Program) (memory : List 
       go other early (inr late) = absurd (omega arith)
 
   -- two last beginnings are one
-  same_last : (until : ℕ) (xs ys : List Action) → IsLastBy choice durations m memory until xs → IsLastBy choice durations m memory until ys → xs ≡ ys
+  pub same_last : (until : ℕ) (xs ys : List Action) → IsLastBy choice durations m memory until xs → IsLastBy choice durations m memory until ys → xs ≡ ys
   same_last until xs ys h k = let x = h.last ys k.canonical k.in_time in let y = k.last xs h.canonical h.in_time in same_length xs ys h.canonical k.canonical (omega arith)
 
   -- ---- the laws

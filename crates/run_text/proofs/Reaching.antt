@@ -15,7 +15,7 @@ use Rattle.unit_law.specs.OnUnit.{IsLawfulChoice}
 use Rattle.unit_law.specs.Canonical.{Durations, IsTiming, next_action, IsCanonical}
 use Rattle.unit_law.specs.Fit.{AllFit, AllStand, HasTimes}
 use Rattle.unit_law.specs.Determinate.{HasFinished}
-use Rattle.unit_law.proofs.Inside.{Inside}
+use Rattle.unit_law.specs.Inside.{Inside}
 use Rattle.unit_law.proofs.Ordered.{Holds, run_holds, started_mode}
 use Rattle.unit_law.proofs.Totals.{HoldsAre, holds_by}
 use Rattle.unit_law.proofs.Budgets.{steps_left, steps_inside, holds_after, HoldsRight, run_right}

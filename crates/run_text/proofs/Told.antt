@@ -18,7 +18,8 @@ use Rattle.bm_machine.specs.Shown.{HasCounts}
 use Rattle.run_text.specs.RunUpTo.{IsLastBy, End, end_of}
 use Rattle.run_text.specs.Runs.{HasCome}
 use Rattle.run_text.specs.Told.{told_by, IsToldUpTo, IsToldBy}
-use Rattle.run_text.proofs.OneRun.{same_length}
+use Rattle.run_text.proofs.Coming.{zero_at}
+use Rattle.run_text.proofs.OneRun.{same_length, same_last}
 use Rattle.run_text.specs.TraceBegins.{Starts}
 
 prefix_refl : {X : Type 0} (xs : List X) → IsPrefixOf xs xs
@@ -30,11 +31,6 @@ prefix_trans xs ys zs p q = (p.0 ++ q.0, sym (append_assoc xs p.0 q.0) ∙ ap (�
 told_and : (events : List Event) (o : Option Event) → IsPrefixOf (filter goes_on events) (filter goes_on (and_event events o))
 told_and events None = ([], append-nil (filter goes_on events))
 told_and events (Some e) = (filter goes_on (e ∷ []), sym (filter-append goes_on events (e ∷ [])))
-
-pub zero_at : (n p : ℕ) → let none : ℕ = 0 in get_or (replicate n none) p none ≡ none
-zero_at zero p = refl
-zero_at (suc n) zero = refl
-zero_at (suc n) (suc p) = zero_at n p
 
 module _ (choice : Choice) (durations : Durations) (m : Program) (memory : List Content) where
   -- one action more tells no less
@@ -55,16 +51,10 @@ module _ (choice : Choice) (durations : Durations) (m : Program) (memory : List 
       let x = longer_told h.past k.past h.canonical k.is_last.canonical (k.is_last.last h.past h.canonical h.in_time) in
       subst (λ xs. IsPrefixOf xs events) (sym h.events_are) (subst (IsPrefixOf (told_by m memory h.past)) (sym k.events_are) x)
 
-  same_last : (until : ℕ) (xs ys : List Action) → IsLastBy choice durations m memory until xs → IsLastBy choice durations m memory until ys → xs ≡ ys
-  same_last until xs ys h k =
-      let x : length ys ≤ length xs = h.last ys k.canonical k.in_time in
-      let y : length xs ≤ length ys = k.last xs h.canonical h.in_time in
-      same_length choice durations m memory xs ys h.canonical k.canonical (omega arith)
-
   pub told_one : (until : ℕ) (events : List Event) (end : Option End) (events2 : List Event) (end2 : Option End) → IsToldUpTo choice durations m memory until events end → IsToldUpTo choice durations m memory until events2 end2
       → (events ≡ events2) × (end ≡ end2)
   told_one until events end events2 end2 h k =
-      let e = same_last until h.past k.past h.is_last k.is_last in (
+      let e = same_last choice durations m memory until h.past k.past h.is_last k.is_last in (
         h.events_are ∙ ap (told_by m memory) e ∙ sym k.events_are,
         h.end_is ∙ ap (λ zs. end_of (state_after m memory zs) (state_after m memory zs).mode) e ∙ sym k.end_is,
       )

@@ -27,7 +27,9 @@ ghost use Rattle.run_text.specs.RunText.{IsRunText, BoundedRunsEnd};
 ghost use Rattle.run_text.specs.RunUpTo.{IsRunUpTo};
 ghost use Rattle.run_text.specs.Runs.{HasCome};
 ghost use Rattle.run_text.specs.Serial.{RunsMeanTheSerialOrder, SerialEndsAreTold};
-ghost use Rattle.run_text.specs.TraceLaws.{TracesAreOne, RunsHaveSomeTrace, KindsHaveOneTrace, KindsHaveSomeTrace};
+ghost use Rattle.run_text.specs.TraceLaws.{TracesAreOne, RunsHaveSomeTrace, TracesPrintTheRun};
+ghost use Rattle.run_text.specs.TraceLaws.{KindsHaveOneTrace, KindsHaveSomeTrace};
+ghost use Rattle.run_text.specs.TraceLaws.{TracesMeanTheSerialOrder, SerialEndsAreTraced};
 ghost use Rattle.run_text.specs.declared.kind.UnitKind.{UnitKind};
 ghost use Rattle.std.specs.Prelude.{◌≡◌, ℕ, List, [], ◌∷◌, replicate, Some, None, pos};
 ghost use Rattle.timing_script.specs.declared.script.Script.{Script};
@@ -131,10 +133,11 @@ pub fn bounded_runs_end()
 
 /// A run on any unit, with any timing and from any memory, has at most one trace. It has one where
 /// lines fit their blocks, each tuple stands in its line, and times, timing, unit and memory are
-/// lawful.
+/// lawful. The words that it prints, and its end, are those that the run shows.
 pub fn runs_have_one_trace()
     ensures one { TracesAreOne }
     ensures some { RunsHaveSomeTrace }
+    ensures prints { TracesPrintTheRun }
 {
     a_run_shows_one_thing();
 }
@@ -147,4 +150,14 @@ pub fn kinds_have_one_trace()
 {
     runs_have_one_trace();
     choices_are_lawful();
+}
+
+/// What the trace of a run on a unit of a kind prints, and how it ends, the blocks' serial meaning has;
+/// and where that ends within a budget, the trace tells an end.
+pub fn traces_mean_the_serial_order()
+    ensures means { TracesMeanTheSerialOrder }
+    ensures ends { SerialEndsAreTraced }
+{
+    runs_have_one_trace();
+    runs_mean_the_serial_order();
 }

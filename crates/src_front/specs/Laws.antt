@@ -1,8 +1,9 @@
 -- What holds of every text.
-use Rattle.std.specs.Prelude.{◌≡◌, ℕ, List}
+use Rattle.std.specs.Prelude.{◌≡◌, ◌≤◌, ℕ, List, length}
 use Rattle.src_names.specs.RProgram.{RProgram}
 use Rattle.src_names.specs.Right.{IsRight}
-use Rattle.src_names.specs.Sizes.{AllFewNodes}
+use Rattle.src_names.specs.Ranges.{IsInRange}
+use Rattle.src_names.specs.Sizes.{AllFewNodes, statements}
 use Rattle.src_front.specs.declared.fault.SourceFault.{SourceFault}
 use Rattle.src_front.specs.Reads.{Reads, FirstFault}
 
@@ -28,3 +29,11 @@ ReadRight = (src : List ℕ) (r : RProgram) → Reads src r → IsRight r
 -- and at most 120 nodes in each statement
 abbrev pub ReadFewNodes : Type 0
 ReadFewNodes = (src : List ℕ) (r : RProgram) → Reads src r → AllFewNodes r.body
+
+-- and no more statements than the text has bytes
+abbrev pub ReadFewStatements : Type 0
+ReadFewStatements = (src : List ℕ) (r : RProgram) → Reads src r → statements r.body ≤ length src
+
+-- and each declared kind is in range, and each number a word
+abbrev pub ReadInRange : Type 0
+ReadInRange = (src : List ℕ) (r : RProgram) → Reads src r → IsInRange r

@@ -1,8 +1,8 @@
 //! Laws of texts and the programs that they read as.
 
-ghost use Rattle.src_front.specs.Laws.{HaveOneAnswer, ReadFewNodes, ReadOnce, ReadRight};
+ghost use Rattle.src_front.specs.Laws.{HaveOneAnswer, ReadFewNodes, ReadFewStatements, ReadInRange, ReadOnce, ReadRight};
 
-use src_lexer::{text_has_one_spelling, texts_have_one_answer};
+use src_lexer::{spelled_tokens_are_in_order, text_has_one_spelling, texts_have_one_answer};
 use src_names::{trees_have_one_answer, trees_have_one_program};
 use src_parser::{tokens_have_one_answer, tokens_have_one_tree};
 use src_tree::derived_trees_are_plain;
@@ -29,10 +29,14 @@ pub fn sources_have_one_answer()
 }
 
 /// What a text reads as has lawful names, each name number in it is declared and of the right
-/// kind, and each statement has at most 120 nodes.
+/// kind, each statement has at most 120 nodes, there are no more statements than bytes, each declared
+/// kind is in range and each number is a word.
 pub fn programs_are_read_right()
     ensures right { ReadRight }
     ensures nodes { ReadFewNodes }
+    ensures statements { ReadFewStatements }
+    ensures range { ReadInRange }
 {
+    spelled_tokens_are_in_order();
     derived_trees_are_plain();
 }

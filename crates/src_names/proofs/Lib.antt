@@ -4,6 +4,7 @@ pub mod Uses
 pub mod Wrong
 pub mod Declaring
 pub mod Unique
+pub mod Ranges
 pub mod First
 pub mod Whole
 pub mod Some

@@ -48,7 +48,7 @@ module _ (es : List Entry) (range : AreInRange es) where
   one_array {m = m} {i = i} {j = j} v w = range.once i j (record { name = m.text; kind = k.Array v.len }) (record { name = m.text; kind = k.Array w.len }) v.here w.here refl
 
   -- what the layer of an expression is named by
-  abbrev Layer : Expr-F Expr → RExpr → Type 0
+  abbrev pub Layer : Expr-F Expr → RExpr → Type 0
   Layer (Expr-F.Number v) z = z ≡ re.Number v
   Layer (Expr-F.Var m) z = (id : ℕ) × IsVar es m id × (z ≡ re.Var id)
   Layer (Expr-F.Element m i) z = (id : ℕ) × (j : RExpr) × IsArray es m id × NamedExpr es i j × (z ≡ re.Element id j)
@@ -62,7 +62,7 @@ module _ (es : List Entry) (range : AreInRange es) where
   layer (n.one {op = op} {a = x} {x = z} h) = rw (e.outs-One op x) (z, h, refl)
   layer (n.two {op = op} {a = x} {b = y} {x = z} {z = w} h l) = rw (e.outs-Two op x y) (z, w, h, l, refl)
 
-  layer_of : (x : Expr) (z : RExpr) (y : Expr-F Expr) → out-Expr x ≡ y → NamedExpr es x z → Layer y z
+  pub layer_of : (x : Expr) (z : RExpr) (y : Expr-F Expr) → out-Expr x ≡ y → NamedExpr es x z → Layer y z
   layer_of x z y e h = let P : Expr-F Expr → Type 0 = λ w. Layer w z in subst P e (layer h)
 
   one_expr : {x : Expr} {z q : RExpr} → NamedExpr es x z → NamedExpr es x q → z ≡ q
@@ -83,7 +83,7 @@ module _ (es : List Entry) (range : AreInRange es) where
       ap (λ u. re.Two op u w) (one_expr h o.2) ∙ ap (λ u. re.Two op o.0 u) (one_expr k o.3) ∙ sym o.4
 
   -- what the layer of a statement is named by
-  abbrev StmtLayer : Stmt-F Stmt → RStmt → Type 0
+  abbrev pub StmtLayer : Stmt-F Stmt → RStmt → Type 0
   StmtLayer (Stmt-F.Assign m x) z = (id : ℕ) × (y : RExpr) × IsVar es m id × NamedExpr es x y × (z ≡ rs.Assign id y)
   StmtLayer (Stmt-F.SetElement m i x) z = (id : ℕ) × (j : RExpr) × (y : RExpr) × IsArray es m id × NamedExpr es i j × NamedExpr es x y × (z ≡ rs.SetElement id j y)
   StmtLayer (Stmt-F.Print x) z = (y : RExpr) × NamedExpr es x y × (z ≡ rs.Print y)
@@ -97,10 +97,10 @@ module _ (es : List Entry) (range : AreInRange es) where
   stmt_layer (n.choose {a = x} {x = y} {us = us} {ws = ws} {ys = ks} {ns = ls} h l o) = rw (s.outs-If x us ws) (y, ks, ls, h, l, o, refl)
   stmt_layer (n.repeat {a = x} {x = y} {us = us} {ys = ks} h l) = rw (s.outs-While x us) (y, ks, h, l, refl)
 
-  stmt_layer_of : (x : Stmt) (z : RStmt) (y : Stmt-F Stmt) → out-Stmt x ≡ y → NamedStmt es x z → StmtLayer y z
+  pub stmt_layer_of : (x : Stmt) (z : RStmt) (y : Stmt-F Stmt) → out-Stmt x ≡ y → NamedStmt es x z → StmtLayer y z
   stmt_layer_of x z y e h = let P : Stmt-F Stmt → Type 0 = λ w. StmtLayer w z in subst P e (stmt_layer h)
 
-  abbrev BodyLayer : List Stmt → List RStmt → Type 0
+  abbrev pub BodyLayer : List Stmt → List RStmt → Type 0
   BodyLayer [] zs = zs ≡ []
   BodyLayer (u ∷ us) zs = (y : RStmt) × (ys : List RStmt) × NamedStmt es u y × NamedBody es us ys × (zs ≡ y ∷ ys)
 
@@ -108,7 +108,7 @@ module _ (es : List Entry) (range : AreInRange es) where
   body_layer n.none = refl
   body_layer (n.more {z = z} {zs = zs} h l) = (z, zs, h, l, refl)
 
-  body_layer_of : (us : List Stmt) (zs : List RStmt) → NamedBody es us zs → BodyLayer us zs
+  pub body_layer_of : (us : List Stmt) (zs : List RStmt) → NamedBody es us zs → BodyLayer us zs
   body_layer_of us zs h = body_layer h
 
   mutual

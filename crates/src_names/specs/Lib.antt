@@ -3,6 +3,7 @@ pub mod RProgram
 pub mod Declarations
 pub mod Named
 pub mod Right
+pub mod Ranges
 pub mod Fault
 pub mod Adding
 pub mod Stops

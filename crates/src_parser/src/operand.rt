@@ -39,6 +39,7 @@ fn binary(symbol: Symbol) -> Option<Bin>
     }
 }
 
+/// The identifier that a name's token is.
 pub fn ident(alloc: Global, src: &[u8], token: Token) -> Result<Ident, AllocError>
     requires low { token.at ≤ token.end }
     requires high { token.end ≤ length src.now }
@@ -117,6 +118,7 @@ fn begin_part(goal: Goal, mut parts: Stack<Part>, part: Part) -> Result<Action, 
     }
 }
 
+/// What a token asks for where an operand begins.
 pub fn operand_at(
     alloc: Global,
     src: &[u8],
@@ -267,6 +269,7 @@ fn closed(
     }
 }
 
+/// What a token of this kind asks for behind a whole operand.
 pub fn value_at(
     alloc: Global,
     goal: Goal,
@@ -307,6 +310,7 @@ fn is_bracket(kind: TokenKind) -> bool
     }
 }
 
+/// What a token of this kind asks for behind a name: a bracket opens its index, else it is a variable.
 pub fn named_at(
     alloc: Global,
     goal: Goal,

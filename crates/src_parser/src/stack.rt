@@ -5,6 +5,7 @@ ghost use Rattle.std.specs.Prelude.{◌≡◌, [], ◌∷◌, OnOk, MatchOption,
 use std::alloc::{AllocError, Global};
 use std::marker::Model;
 
+/// A stack, from which items leave in the opposite order of their coming.
 #[derive(Drop)]
 pub struct Stack<T> {
     items: Vec<T>,
@@ -22,6 +23,7 @@ impl<T> Model for Stack<T> {
 }
 
 impl<T> Stack<T> {
+    /// A stack of no items.
     pub fn new(alloc: Global) -> Stack<T>
         ensures { result ≡ [] }
     {
@@ -30,6 +32,7 @@ impl<T> Stack<T> {
         }
     }
 
+    /// Whether it has no items.
     pub fn is_empty(&self) -> bool
         ensures { IsTrue result ↔ (self.now ≡ []) }
     {
@@ -43,6 +46,7 @@ impl<T> Stack<T> {
         self.items.as_slice()
     }
 
+    /// Takes off its newest item, if there is one.
     pub fn pop(&mut self) -> Option<T>
         ensures { MatchOption result ((self.old ≡ []) × (self.new ≡ [])) (λ last. self.old ≡ last ∷ self.new) }
     {
@@ -51,6 +55,7 @@ impl<T> Stack<T> {
 }
 
 impl<T: Drop> Stack<T> {
+    /// Puts an item on top.
     pub fn push(&mut self, item: T) -> Result<(), AllocError>
         ensures { OnOk result (self.new ≡ item ∷ self.old) }
     {

@@ -1,11 +1,13 @@
 //! The canonical text of a tree.
 
-ghost use Rattle.std.specs.Prelude.{◌≡◌, ◌++◌, ◌≤◌, OnOk, IfOk, map};
+ghost use Rattle.std.specs.Prelude.{◌≡◌, ◌++◌, ◌≤◌, OnOk, IfOk, codes, map};
 ghost use Rattle.std.specs.Fmt.{signed_decimal};
-ghost use Rattle.src_tree.specs.Text.{text_of, tight, expr_text, stmt_text, body_text, decl_text, program_text, joined};
+ghost use Rattle.src_tree.specs.Operators.{bin_symbol as spec_symbol};
+ghost use Rattle.src_tree.specs.Text.{text_of, tight, spaced, expr_text, stmt_text, body_text, decl_text, program_text, joined};
 
 use crate::operators::{bin_symbol, level, un_symbol};
-use crate::tree::{Decl, Expr, Program, Stmt};
+use crate::tree::{Decl, Expr, Ident, Program, Stmt};
+use bm_base::Bin;
 use std::alloc::{AllocError, Global};
 
 const OPERAND: u8 = 7;
@@ -28,6 +30,16 @@ fn write_number(out: &mut Vec<u8>, value: i64) -> Result<(), AllocError>
 {
     let text = value.to_string(*out.allocator())?;
     out.extend_from_slice(text.as_bytes())
+}
+
+/// A binary operator with a blank on each side.
+#[tactic(auto, using(std::proofs::Common::append_assoc))]
+fn write_operator(out: &mut Vec<u8>, op: Bin) -> Result<(), AllocError>
+    ensures { OnOk result (out.new.items ≡ out.old.items ++ spaced (spec_symbol op)) }
+{
+    out.extend_from_slice(b" ")?;
+    out.extend_from_slice(bin_symbol(op).text())?;
+    out.extend_from_slice(b" ")
 }
 
 #[cycle(write)]
@@ -64,9 +76,7 @@ fn write_expr(out: &mut Vec<u8>, x: &Expr) -> Result<(), AllocError>
         Expr::Two { op, a, b } => {
             let level = level(*op);
             write_tight(out, level, a.get())?;
-            out.extend_from_slice(b" ")?;
-            out.extend_from_slice(bin_symbol(*op).text())?;
-            out.extend_from_slice(b" ")?;
+            write_operator(out, *op)?;
             write_tight(out, level + 1, b.get())
         }
     }
@@ -82,21 +92,34 @@ fn write_between(out: &mut Vec<u8>, before: &[u8], x: &Expr, after: &[u8]) -> Re
     out.extend_from_slice(after)
 }
 
+/// An assignment to a variable.
+#[tactic(auto, using(std::proofs::Common::append_assoc))]
+fn write_assign(out: &mut Vec<u8>, name: &Ident, value: &Expr) -> Result<(), AllocError>
+    ensures { OnOk result (out.new.items ≡ out.old.items ++ (name.now.text ++ codes " = " ++ expr_text value.now ++ codes ";\n")) }
+{
+    out.extend_from_slice(name.text.as_slice())?;
+    write_between(out, b" = ", value, b";\n")
+}
+
+/// An assignment to an element.
+#[tactic(auto, using(std::proofs::Common::append_assoc))]
+fn write_set(out: &mut Vec<u8>, name: &Ident, index: &Expr, value: &Expr) -> Result<(), AllocError>
+    ensures { OnOk result (out.new.items ≡ out.old.items ++
+        (name.now.text ++ codes "[" ++ expr_text index.now ++ codes "] = " ++ expr_text value.now ++ codes ";\n")) }
+{
+    out.extend_from_slice(name.text.as_slice())?;
+    write_between(out, b"[", index, b"] = ")?;
+    write_between(out, b"", value, b";\n")
+}
+
 #[cycle(write_statements)]
 #[tactic(auto, using(crate::proofs::Equations::statement_texts, std::proofs::Common::append_assoc))]
 fn write_stmt(out: &mut Vec<u8>, stmt: &Stmt) -> Result<(), AllocError>
     ensures { OnOk result (out.new.items ≡ out.old.items ++ stmt_text stmt.now) }
 {
     match stmt {
-        Stmt::Assign { name, value } => {
-            out.extend_from_slice(name.text.as_slice())?;
-            write_between(out, b" = ", value, b";\n")
-        }
-        Stmt::SetElement { name, index, value } => {
-            out.extend_from_slice(name.text.as_slice())?;
-            write_between(out, b"[", index, b"] = ")?;
-            write_between(out, b"", value, b";\n")
-        }
+        Stmt::Assign { name, value } => write_assign(out, name, value),
+        Stmt::SetElement { name, index, value } => write_set(out, name, index, value),
         Stmt::Print { value } => write_between(out, b"print ", value, b";\n"),
         Stmt::If { cond, yes, no } => {
             write_between(out, b"if ", cond, b" {\n")?;

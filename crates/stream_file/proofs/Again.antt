@@ -12,7 +12,7 @@ use Rattle.bm_base.specs.declared.names.Kind.TheVariants.{Var, Array}
 use Rattle.bm_base.specs.Entry.{Entry}
 use Rattle.bm_base.specs.Mask.{has_bit}
 use Rattle.bm_base.specs.Machine.{Machine, IsMachine, IsTime}
-use Rattle.bm_base.specs.Names.{AreNames, has_element}
+use Rattle.bm_base.specs.Names.{has_element}
 use Rattle.bm_base.specs.Spec.{time_of}
 use Rattle.bm_base.proofs.MaskBits.{is_below-bits}
 use Rattle.tuple_ir.specs.declared.tuple.Tuple.{Tuple}
@@ -36,6 +36,7 @@ use Rattle.stream_file.specs.RowFits.{InRange}
 use Rattle.stream_file.specs.Fields.{BlockFields, Fits, HeadFits, TupleFits, ItemFits, NextFits, KindFits, StreamFits, AreAbove, BlockFits, text_of, fits_mask}
 use Rattle.stream_file.specs.Images.{with_fields, with_all, program_of, head_of, machine_of, AllTaken, IsTextOfImage}
 use Rattle.stream_file.specs.Written.{version_of, given_by, streams_from, fields_at, blocks_from, fields_of}
+use Rattle.stream_file.specs.Typed.{IsTyped}
 use Rattle.stream_file.proofs.Loaded.{nine_are, increasing}
 
 -- ---- the head
@@ -200,14 +201,6 @@ all_fit m b zero e h = tt
 all_fit m b (suc k) e h = (h b (omega arith), all_fit m (suc b) k (omega arith) h)
 
 -- ---- the whole
-
--- what the types of the code give
-pub record IsTyped (m : Program) : Type 0 where
-  pub machine : IsMachine m.machine
-  pub names : AreNames m.names
-  pub kinds : AllByRecursion (λ (e : Entry). InRange e.kind) m.names
-  pub few : length m.blocks ≤ 4294967296
-  pub tuples : (b : ℕ) → b < length m.blocks → AllByRecursion TupleFits (code_at m b).tuples
 
 pub fields_fit : (m : Program) → IsImage m → IsTyped m → Fits (fields_of m)
 fields_fit m image typed = record {

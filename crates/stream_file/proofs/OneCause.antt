@@ -13,7 +13,7 @@ use Rattle.stream_image.specs.declared.fault.ImageFault.TheVariants.{Order, Unor
 use Rattle.stream_image.specs.declared.order.Wrong.{Wrong}
 use Rattle.stream_image.specs.declared.order.Wrong.TheVariants.{Turned, Loose}
 use Rattle.stream_image.specs.Order.{IsSo, IsRight, IsFirstWrong}
-use Rattle.stream_image.specs.Refused.{IsOrderFault, IsRefused, in_block, turned, loose, unkept, unordered}
+use Rattle.stream_image.specs.Refused.{IsOrderFault, IsRefused, turned, loose, unkept, unordered}
 use Rattle.stream_image.proofs.Accepted.{not_both}
 use Rattle.stream_file.specs.Fields.{BlockFields, Fields}
 use Rattle.stream_file.specs.Images.{block_of, head_of, with_fields, IsFirstDenied, IsFirstCause, denied, astray}
@@ -53,9 +53,9 @@ module _ (pace : Pace) (tuples : List Tuple) (line : List Item) where
   one_order n f g (loose h) (loose k) = h.fault_is ∙ (λ i. Unordered n (earlier_same Loose h.a h.b k.a k.b h.first k.first i) (later_same Loose h.a h.b k.a k.b h.first k.first i)) ∙ sym k.fault_is
 
 one_refused : (m : Program) (block : Block) (ss : List Stream) (ms : List ℕ) (f g : ImageFault) → IsRefused m block ss ms f → IsRefused m block ss ms g → f ≡ g
-one_refused m block ss ms f g (unkept a p e) (unkept b q d) = e ∙ ap (in_block _) (some_same (sym p ∙ q)) ∙ sym d
-one_refused m block ss ms f g (unkept a p e) (unordered q o) = absurd (none_some (sym q ∙ p))
-one_refused m block ss ms f g (unordered p o) (unkept b q d) = absurd (none_some (sym p ∙ q))
+one_refused m block ss ms f g (unkept p) (unkept q) = some_same (sym p ∙ q)
+one_refused m block ss ms f g (unkept p) (unordered q o) = absurd (none_some (sym q ∙ p))
+one_refused m block ss ms f g (unordered p o) (unkept q) = absurd (none_some (sym p ∙ q))
 one_refused m block ss ms f g (unordered p o) (unordered q r) = one_order _ block.tuples _ _ f g o r
 
 one_denied : (m : Program) (bs : List BlockFields) (f g : ImageFault) → IsFirstDenied m bs f → IsFirstDenied m bs g → f ≡ g

@@ -14,7 +14,7 @@ use Rattle.bm_base.specs.Entry.{Entry}
 use Rattle.bm_base.specs.Names.{AreNames}
 use Rattle.bm_base.specs.Lines.{unlines}
 use Rattle.tuple_ir.specs.declared.tuple.Tuple.{Tuple}
-use Rattle.tuple_ir.specs.declared.tuple.Tuple.TheVariants.{Const, Load, Store, LoadEl, StoreEl, One, Two, Print}
+pub use Rattle.tuple_ir.specs.Fits.{TupleFits}
 use Rattle.tuple_ir.specs.declared.block.Next.{Next}
 use Rattle.tuple_ir.specs.declared.block.Next.TheVariants.{Halt, Goto, If}
 use Rattle.line_model.specs.declared.line.StreamItem.{StreamItem}
@@ -102,16 +102,6 @@ pub record HeadFits (version processors barrier : ℕ) : Type 0 where
   pub high : version ≤ 3
   pub processors_fit : fits_processors version processors ≡ true
   pub barrier_fits : (version ≡ 1 → barrier ≡ 0) × ((version ≡ 1 → ⊥) → fits_barrier version barrier ≡ true)
-
-abbrev pub TupleFits : Tuple → Type 0
-TupleFits (Const v) = FitsSigned w64 v
-TupleFits (Load x) = x ≤ 65535
-TupleFits (Store x v) = (x ≤ 65535) × (v ≤ 255)
-TupleFits (LoadEl x i) = (x ≤ 65535) × (i ≤ 255)
-TupleFits (StoreEl x i v) = (x ≤ 65535) × (i ≤ 255) × (v ≤ 255)
-TupleFits (One op a) = a ≤ 255
-TupleFits (Two op a b) = (a ≤ 255) × (b ≤ 255)
-TupleFits (Print v) = v ≤ 255
 
 abbrev pub ItemFits : StreamItem → Type 0
 ItemFits (Do t) = t ≤ 255

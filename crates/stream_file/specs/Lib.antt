@@ -13,3 +13,4 @@ pub mod RowFits
 pub mod Shown
 pub mod Texts
 pub mod Written
+pub mod Typed

@@ -30,10 +30,10 @@ RowFits (Follows n) = NextFits n
 RowFits Ends = Unit {0}
 
 -- .. of which the types of the code give these
-abbrev pub IsTyped : Row → Type 0
-IsTyped (Named e) = InRange e.kind
-IsTyped (Does t) = TupleFits t
-IsTyped _ = Unit {0}
+abbrev pub IsTypedRow : Row → Type 0
+IsTypedRow (Named e) = InRange e.kind
+IsTypedRow (Does t) = TupleFits t
+IsTypedRow _ = Unit {0}
 
 abbrev pub AreTypedTuples : List Tuple → Type 0
 AreTypedTuples tuples = AllByRecursion TupleFits tuples

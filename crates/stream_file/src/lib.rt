@@ -12,5 +12,5 @@ mod words;
 mod writing;
 
 pub use loading::{LoadFault, load};
-pub use reading::texts_have_one_answer;
+pub use reading::{images_have_texts, texts_have_one_answer};
 pub use writing::write_image;

@@ -2,6 +2,7 @@
 ghost use Rattle.std.specs.Prelude.{◌-◌, ◌<◌, ◌^◌, length};
 ghost use Rattle.stream_file.specs.Laws.{TextsHaveOneAnswer};
 ghost use Rattle.stream_file.specs.Built.{Reads};
+ghost use Rattle.stream_file.specs.Typed.{ImagesHaveTexts};
 
 use crate::built::Built;
 use crate::draft::Draft;
@@ -57,4 +58,9 @@ pub fn read(alloc: Global, bytes: &[u8]) -> Result<Built, ReadFault>
 /// both.
 pub fn texts_have_one_answer()
     ensures { TextsHaveOneAnswer }
+{}
+
+/// The text of the fields of an image within the ranges that the types give is the text of this image.
+pub fn images_have_texts()
+    ensures { ImagesHaveTexts }
 {}

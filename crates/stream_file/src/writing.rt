@@ -12,7 +12,7 @@ ghost use Rattle.unit_law.specs.State.{code_at};
 ghost use Rattle.stream_file.specs.Written.{version_of, head_lines, time_lines, given_by, streams_from, stream_rows, fields_at};
 ghost use Rattle.stream_file.specs.Written.{blocks_from, fields_of};
 ghost use Rattle.stream_file.specs.Texts.{text_of_rows, spaced};
-ghost use Rattle.stream_file.specs.RowFits.{InRange, IsTyped, AreTypedTuples, AreTypedNames};
+ghost use Rattle.stream_file.specs.RowFits.{InRange, IsTypedRow, AreTypedTuples, AreTypedNames};
 ghost use Rattle.stream_file.specs.Images.{IsTextOfImage};
 ghost use Rattle.stream_image.specs.Image.{IsImage};
 
@@ -145,7 +145,7 @@ fn entry(out: &mut Vec<u8>, name: &[u8], kind: Kind) -> Result<(), AllocError>
 /// The text of a line, without its LF.
 fn line(out: &mut Vec<u8>, line: Line) -> Result<(), AllocError>
     ensures text { OnOk result (out.new.items ≡ out.old.items ++ spec.row_text (row line.entry)) }
-    ensures typed { IsTyped (row line.entry) }
+    ensures typed { IsTypedRow (row line.entry) }
 {
     match line {
         Line::Version { version } => worded(out, b"bmimd", u64::from(version)),
@@ -183,7 +183,7 @@ fn line(out: &mut Vec<u8>, line: Line) -> Result<(), AllocError>
 /// A line with its LF.
 pub fn write_line(out: &mut Vec<u8>, row_of: Line) -> Result<(), AllocError>
     ensures text { OnOk result (out.new.items ≡ out.old.items ++ text_of_rows (row row_of.entry ∷ [])) }
-    ensures typed { IsTyped (row row_of.entry) }
+    ensures typed { IsTypedRow (row row_of.entry) }
 {
     line(out, row_of)?;
     text(out, b"\n")

@@ -26,7 +26,7 @@ use Rattle.time_interval.proofs.Once.{stand_once}
 use Rattle.unit_law.specs.State.{Program}
 use Rattle.stream_image.specs.declared.given.Stream.{Stream}
 use Rattle.stream_image.specs.Flat.{HeldBlock}
-use Rattle.stream_image.specs.declared.fault.BlockFault.{BlockFault}
+use Rattle.stream_image.specs.declared.fault.ImageFault.{ImageFault}
 use Rattle.stream_image.specs.declared.fault.ImageFault.{ImageFault}
 use Rattle.stream_image.specs.Check.{first_fault, waits_in, masks_of}
 use Rattle.stream_image.specs.Keeps.{AreItems, count_in}
@@ -49,7 +49,7 @@ use Rattle.stream_image.proofs.ImageFacts.{each_push, long_map}
 
 pub accepted_held : (m : Program) (block : Block) (ss : List Stream) (ms : List ℕ) → m.machine.processors ≤ 128 → AreItems ss → AreIncreasing ss → length block.tuples ≤ 128 → length ms ≤ 128 → IsAccepted m block ss ms → IsHeld m.machine m.names (record { block = block; streams = ss; masks = ms })
 accepted_held m block ss ms most items up few short h =
-    let k = keeps_all m.names m.machine.processors block.tuples block.next ss ms items h.kept in
+    let k = keeps_all (length m.blocks) m.names m.machine.processors block.tuples block.next ss ms items h.kept in
     record {
       kept = record {
         few = few;
@@ -251,12 +251,12 @@ line_pushed machine names block line held new ss ms m (Ok u) ok v e f =
 
 -- ---- what the test of a block tells
 
-pub told : (o : Option BlockFault) (names : List Entry) (n m : ℕ) (ts us : List Tuple) (next : Next) (ss : List Stream) (ms : List ℕ) → o ≡ first_fault names m us next ss ms → m ≡ n → us ≡ ts → o ≡ first_fault names n ts next ss ms
-told o names n m ts us next ss ms e f g = e ∙ ap₂ (λ k (xs : List Tuple). first_fault names k xs next ss ms) f g
+pub told : (number : ℕ) (o : Option ImageFault) (names : List Entry) (n m : ℕ) (ts us : List Tuple) (next : Next) (ss : List Stream) (ms : List ℕ) → o ≡ first_fault number names m us next ss ms → m ≡ n → us ≡ ts → o ≡ first_fault number names n ts next ss ms
+told number o names n m ts us next ss ms e f g = e ∙ ap₂ (λ k (xs : List Tuple). first_fault number names k xs next ss ms) f g
 
-pub lined_told : (names : List Entry) (n : ℕ) (block : Block) (ss : List Stream) (ms : List ℕ) → first_fault names n block.tuples block.next ss ms ≡ None → n ≤ 128 → AreItems ss → AreIncreasing ss → length block.tuples ≤ 128 → length ms ≤ 128 → AreLined (length block.tuples) n ss ms
-lined_told names n block ss ms h most bytes up few short =
-    let k = keeps_all names n block.tuples block.next ss ms bytes h in
+pub lined_told : (number : ℕ) (names : List Entry) (n : ℕ) (block : Block) (ss : List Stream) (ms : List ℕ) → first_fault number names n block.tuples block.next ss ms ≡ None → n ≤ 128 → AreItems ss → AreIncreasing ss → length block.tuples ≤ 128 → length ms ≤ 128 → AreLined (length block.tuples) n ss ms
+lined_told number names n block ss ms h most bytes up few short =
+    let k = keeps_all number names n block.tuples block.next ss ms bytes h in
     record {
       given = record { few = most; increasing = up; within = k.within; masks_fit = mask_items 0 n ms most k.some k.own; few_masks = short };
       even = even k bytes up few;
@@ -265,6 +265,6 @@ lined_told names n block ss ms h most bytes up few short =
     }
 
 pub not_both : (m : Program) (block : Block) (ss : List Stream) (ms : List ℕ) (fault : ImageFault) → IsRefused m block ss ms fault → IsAccepted m block ss ms → ⊥
-not_both m block ss ms fault (unkept f e g) h = absurd (some_none (sym e ∙ h.kept))
+not_both m block ss ms fault (unkept e) h = absurd (some_none (sym e ∙ h.kept))
 not_both m block ss ms fault (unordered e (turned t)) h = never_both Turned (pace_on m.machine block.tuples) (line_in m ss ms) t.a t.b (h.ordered.none_turned t.a t.b t.first.stands.conflict) t.first.stands.so
 not_both m block ss ms fault (unordered e (loose t)) h = never_both Loose (pace_on m.machine block.tuples) (line_in m ss ms) t.a t.b (h.ordered.none_loose t.a t.b t.first.stands.conflict) t.first.stands.so

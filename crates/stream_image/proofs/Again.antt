@@ -244,7 +244,7 @@ module _ (m so_far : Program) (b : ℕ) (ss : List Stream) (lawful : IsLawful m.
 
     pub accepted_again : so_far.machine ≡ m.machine → so_far.names ≡ m.names → IsAccepted so_far (block_of (code_at m b)) ss (masks (code_at m b).line)
     accepted_again e f = record {
-      kept = ap₂ (λ (machine : Machine) (names : List Entry). first_fault names machine.processors (code_at m b).tuples (code_at m b).next ss (masks (code_at m b).line)) e f ∙ kept_none m.names m.machine.processors (code_at m b).tuples (code_at m b).next ss (masks (code_at m b).line) bytes keeps;
+      kept = ap₂ (λ (machine : Machine) (names : List Entry). first_fault (length so_far.blocks) names machine.processors (code_at m b).tuples (code_at m b).next ss (masks (code_at m b).line)) e f ∙ kept_none (length so_far.blocks) m.names m.machine.processors (code_at m b).tuples (code_at m b).next ss (masks (code_at m b).line) bytes keeps;
       ordered = subst (λ (machine : Machine). AllInOrder (pace_on machine (code_at m b).tuples) (code_at m b).tuples (line_of machine.processors (items_of ss) (masks (code_at m b).line))) (sym e) (subst (AllInOrder (pace_on m.machine (code_at m b).tuples) (code_at m b).tuples) (own ∙ sym line_again) in_order);
     }
 

@@ -20,8 +20,8 @@ no_high n p l h =
     small a b s = grind arith
 
 -- one processor more
-pub waits_step : (p n : ℕ) (ss : List Stream) (ms : List ℕ) → p < n → spec.waits_of p ss ≡ spec.masks_of p ms → spec.waits_from (p + 1) (n - (p + 1)) ss ms ≡ spec.waits_from p (n - p) ss ms
-waits_step p n ss ms l e =
+pub waits_step : (block p n : ℕ) (ss : List Stream) (ms : List ℕ) → p < n → spec.waits_of p ss ≡ spec.masks_of p ms → spec.waits_from block (p + 1) (n - (p + 1)) ss ms ≡ spec.waits_from block p (n - p) ss ms
+waits_step block p n ss ms l e =
     let more : n - p ≡ suc (n - (p + 1)) = omega arith in
     let t : (spec.waits_of p ss == spec.masks_of p ms) ≡ true = grind (arith, nat_tests) in
-    sym (ap (λ (k : ℕ). spec.waits_from p k ss ms) more ∙ rw t refl)
+    sym (ap (λ (k : ℕ). spec.waits_from block p k ss ms) more ∙ rw t refl)

@@ -11,8 +11,8 @@ use Rattle.tuple_ir.specs.declared.block.Next.TheVariants.{Halt, Goto, If}
 use Rattle.line_model.specs.declared.line.StreamItem.{StreamItem}
 use Rattle.line_model.specs.declared.line.StreamItem.TheVariants.{Do, Wait}
 use Rattle.stream_image.specs.declared.given.Stream.{Stream}
-use Rattle.stream_image.specs.declared.fault.BlockFault.{BlockFault}
-use Rattle.stream_image.specs.declared.fault.BlockFault.TheVariants.{Processor, TupleMissing, Operand, Cell, Waits, MaskEmpty, MaskBit}
+use Rattle.stream_image.specs.declared.fault.ImageFault.{ImageFault}
+use Rattle.stream_image.specs.declared.fault.ImageFault.TheVariants.{Processor, TupleMissing, Operand, Cell, Waits, MaskEmpty, MaskBit}
 use Rattle.stream_image.specs.Check.{foreign, seeing, seeing_all, missing_from, none_seen, once_of, asks, first_false, operand_at, operand_from, is_value, cell_fault, waits_of, masks_of, waits_from, empty_from, bit_from, ◌orelse◌, first_fault}
 use Rattle.stream_image.specs.Keeps.{IsTrueTest, IsTrueCell, AreItems, ItemFits, count_in, count_all, once_if}
 use Rattle.stream_image.specs.Firsts.{numbers_in, numbers, count_of, IsForeign, IsEmptyMask, IsMissing, IsTwice, IsForeignBit, IsFirst}
@@ -30,53 +30,53 @@ lt_false a b h = grind (arith, nat_tests)
 true_lt : (a b : ℕ) → nat_lt a b ≡ true → a < b
 true_lt a b h = grind (arith, nat_tests)
 
-abbrev ForeignIs : ℕ → List Stream → BlockFault → Type 0
-ForeignIs n ss f = (p : ℕ) × ((f ≡ Processor p) × IsForeign n ss p)
+abbrev ForeignIs : ℕ → ℕ → List Stream → ImageFault → Type 0
+ForeignIs block n ss f = (p : ℕ) × ((f ≡ Processor block p) × IsForeign n ss p)
 
-more_foreign : (n : ℕ) (s : Stream) (ss : List Stream) (f : BlockFault) → s.processor < n → ForeignIs n ss f → ForeignIs n (s ∷ ss) f
-more_foreign n s ss f l h = (h.0, (h.1.0, record { front = s ∷ h.1.1.front; stream = h.1.1.stream; rest = h.1.1.rest; streams_are = ap (λ x. s ∷ x) h.1.1.streams_are; own = (l, h.1.1.own); is = h.1.1.is; lacked = h.1.1.lacked }))
+more_foreign : {block : ℕ} (n : ℕ) (s : Stream) (ss : List Stream) (f : ImageFault) → s.processor < n → ForeignIs block n ss f → ForeignIs block n (s ∷ ss) f
+more_foreign {block} n s ss f l h = (h.0, (h.1.0, record { front = s ∷ h.1.1.front; stream = h.1.1.stream; rest = h.1.1.rest; streams_are = ap (λ x. s ∷ x) h.1.1.streams_are; own = (l, h.1.1.own); is = h.1.1.is; lacked = h.1.1.lacked }))
 
-foreign_is : (n : ℕ) (ss : List Stream) (f : BlockFault) → foreign n ss ≡ Some f → ForeignIs n ss f
-foreign_is n [] f h = absurd (some_none (sym h))
-foreign_is n (s ∷ ss) f h = elim (chosen (nat_lt s.processor n) (foreign n ss) (Some (Processor s.processor)) (Some f) h) [
+foreign_is : {block : ℕ} (n : ℕ) (ss : List Stream) (f : ImageFault) → foreign block n ss ≡ Some f → ForeignIs block n ss f
+foreign_is {block} n [] f h = absurd (some_none (sym h))
+foreign_is {block} n (s ∷ ss) f h = elim (chosen (nat_lt s.processor n) (foreign block n ss) (Some (Processor block s.processor)) (Some f) h) [
   | inl p ↦ more_foreign n s ss f (true_lt s.processor n p.0) (foreign_is n ss f p.1)
   | inr p ↦ (s.processor, (sym (some_same p.1), record { front = []; stream = s; rest = ss; streams_are = refl; own = tt; is = refl; lacked = lt_false s.processor n p.0 }))
 ]
 
 -- ---- masks
 
-abbrev EmptyIs : ℕ → List ℕ → BlockFault → Type 0
-EmptyIs k ms f = (j : ℕ) × ((f ≡ MaskEmpty (k + j)) × IsEmptyMask ms j)
+abbrev EmptyIs : ℕ → ℕ → List ℕ → ImageFault → Type 0
+EmptyIs block k ms f = (j : ℕ) × ((f ≡ MaskEmpty block (k + j)) × IsEmptyMask ms j)
 
-more_empty : (k m : ℕ) (ms : List ℕ) (f : BlockFault) → (m ≡ 0 → ⊥) → EmptyIs (k + 1) ms f → EmptyIs k (m ∷ ms) f
-more_empty k m ms f n h = (suc h.0, (h.1.0 ∙ ap MaskEmpty (let z : (k + 1) + h.0 ≡ k + suc h.0 = omega arith in z), record { at = h.1.1.at; before = by h.0 h.1.1.before }))
+more_empty : {block : ℕ} (k m : ℕ) (ms : List ℕ) (f : ImageFault) → (m ≡ 0 → ⊥) → EmptyIs block (k + 1) ms f → EmptyIs block k (m ∷ ms) f
+more_empty {block} k m ms f n h = (suc h.0, (h.1.0 ∙ ap (MaskEmpty block) (let z : (k + 1) + h.0 ≡ k + suc h.0 = omega arith in z), record { at = h.1.1.at; before = by h.0 h.1.1.before }))
   where
     by : (j : ℕ) → ((i x : ℕ) → i < j → slice_get ms i ≡ Some x → x ≡ 0 → ⊥) → (i x : ℕ) → i < suc j → slice_get (m ∷ ms) i ≡ Some x → x ≡ 0 → ⊥
     by j b zero x l g e = n (some_same g ∙ e)
     by j b (suc i) x l g e = b i x (omega arith) g e
 
-empty_is : (k : ℕ) (ms : List ℕ) (f : BlockFault) → empty_from k ms ≡ Some f → EmptyIs k ms f
-empty_is k [] f h = absurd (some_none (sym h))
-empty_is k (m ∷ ms) f h = elim (chosen (m == 0) (Some (MaskEmpty k)) (empty_from (k + 1) ms) (Some f) h) [
-  | inl p ↦ (0, (sym (some_same p.1) ∙ ap MaskEmpty (let z : k ≡ k + 0 = omega arith in z), record { at = ap Some (true_eq m 0 p.0); before = λ i x l. absurd (omega arith) }))
+empty_is : {block : ℕ} (k : ℕ) (ms : List ℕ) (f : ImageFault) → empty_from block k ms ≡ Some f → EmptyIs block k ms f
+empty_is {block} k [] f h = absurd (some_none (sym h))
+empty_is {block} k (m ∷ ms) f h = elim (chosen (m == 0) (Some (MaskEmpty block k)) (empty_from block (k + 1) ms) (Some f) h) [
+  | inl p ↦ (0, (sym (some_same p.1) ∙ ap (MaskEmpty block) (let z : k ≡ k + 0 = omega arith in z), record { at = ap Some (true_eq m 0 p.0); before = λ i x l. absurd (omega arith) }))
   | inr p ↦ more_empty k m ms f (λ e. true≢false (sym (eq_true m 0 e) ∙ p.0)) (empty_is (k + 1) ms f p.1)
 ]
 
-abbrev BitIs : ℕ → ℕ → List ℕ → BlockFault → Type 0
-BitIs n k ms f = (j : ℕ) × ((f ≡ MaskBit (k + j)) × IsForeignBit n ms j)
+abbrev BitIs : ℕ → ℕ → ℕ → List ℕ → ImageFault → Type 0
+BitIs block n k ms f = (j : ℕ) × ((f ≡ MaskBit block (k + j)) × IsForeignBit n ms j)
 
-more_bit : (n k m : ℕ) (ms : List ℕ) (f : BlockFault) → m < 2 ^ n → BitIs n (k + 1) ms f → BitIs n k (m ∷ ms) f
-more_bit n k m ms f l h = (suc h.0, (h.1.0 ∙ ap MaskBit (let z : (k + 1) + h.0 ≡ k + suc h.0 = omega arith in z), record { mask = h.1.1.mask; at = h.1.1.at; lacked = h.1.1.lacked; before = by h.0 h.1.1.before }))
+more_bit : {block : ℕ} (n k m : ℕ) (ms : List ℕ) (f : ImageFault) → m < 2 ^ n → BitIs block n (k + 1) ms f → BitIs block n k (m ∷ ms) f
+more_bit {block} n k m ms f l h = (suc h.0, (h.1.0 ∙ ap (MaskBit block) (let z : (k + 1) + h.0 ≡ k + suc h.0 = omega arith in z), record { mask = h.1.1.mask; at = h.1.1.at; lacked = h.1.1.lacked; before = by h.0 h.1.1.before }))
   where
     by : (j : ℕ) → ((i x : ℕ) → i < j → slice_get ms i ≡ Some x → x < 2 ^ n) → (i x : ℕ) → i < suc j → slice_get (m ∷ ms) i ≡ Some x → x < 2 ^ n
     by j b zero x q g = subst (λ (y : ℕ). y < 2 ^ n) (some_same g) l
     by j b (suc i) x q g = b i x (omega arith) g
 
-bit_is : (n k : ℕ) (ms : List ℕ) (f : BlockFault) → bit_from n k ms ≡ Some f → BitIs n k ms f
-bit_is n k [] f h = absurd (some_none (sym h))
-bit_is n k (m ∷ ms) f h = elim (chosen (m / 2 ^ n == 0) (bit_from n (k + 1) ms) (Some (MaskBit k)) (Some f) h) [
+bit_is : {block : ℕ} (n k : ℕ) (ms : List ℕ) (f : ImageFault) → bit_from block n k ms ≡ Some f → BitIs block n k ms f
+bit_is {block} n k [] f h = absurd (some_none (sym h))
+bit_is {block} n k (m ∷ ms) f h = elim (chosen (m / 2 ^ n == 0) (bit_from block n (k + 1) ms) (Some (MaskBit block k)) (Some f) h) [
   | inl p ↦ more_bit n k m ms f (zero_small m (2 ^ n) (pow_some n) (true_eq (m / 2 ^ n) 0 p.0)) (bit_is n (k + 1) ms f p.1)
-  | inr p ↦ (0, (sym (some_same p.1) ∙ ap MaskBit (let z : k ≡ k + 0 = omega arith in z), record { mask = m; at = refl; lacked = great m (2 ^ n) (λ l. true≢false (sym (eq_true (m / 2 ^ n) 0 (small_zero m (2 ^ n) l)) ∙ p.0)); before = λ i x l. absurd (omega arith) }))
+  | inr p ↦ (0, (sym (some_same p.1) ∙ ap (MaskBit block) (let z : k ≡ k + 0 = omega arith in z), record { mask = m; at = refl; lacked = great m (2 ^ n) (λ l. true≢false (sym (eq_true (m / 2 ^ n) 0 (small_zero m (2 ^ n) l)) ∙ p.0)); before = λ i x l. absurd (omega arith) }))
 ]
   where
     great : (a b : ℕ) → (a < b → ⊥) → b ≤ a
@@ -84,12 +84,12 @@ bit_is n k (m ∷ ms) f h = elim (chosen (m / 2 ^ n == 0) (bit_from n (k + 1) ms
 
 -- ---- waits
 
-abbrev WaitsIs : ℕ → ℕ → List Stream → List ℕ → BlockFault → Type 0
-WaitsIs p n ss ms f = (q : ℕ) × (p ≤ q) × (q < p + n) × (f ≡ Waits q (waits_of q ss) (masks_of q ms)) × (waits_of q ss ≡ masks_of q ms → ⊥) × ((r : ℕ) → p ≤ r → r < q → waits_of r ss ≡ masks_of r ms)
+abbrev WaitsIs : ℕ → ℕ → ℕ → List Stream → List ℕ → ImageFault → Type 0
+WaitsIs block p n ss ms f = (q : ℕ) × (p ≤ q) × (q < p + n) × (f ≡ Waits block q (waits_of q ss) (masks_of q ms)) × (waits_of q ss ≡ masks_of q ms → ⊥) × ((r : ℕ) → p ≤ r → r < q → waits_of r ss ≡ masks_of r ms)
 
-waits_is : (p n : ℕ) (ss : List Stream) (ms : List ℕ) (f : BlockFault) → waits_from p n ss ms ≡ Some f → WaitsIs p n ss ms f
-waits_is p zero ss ms f h = absurd (some_none (sym h))
-waits_is p (suc n) ss ms f h = elim (chosen (waits_of p ss == masks_of p ms) (waits_from (p + 1) n ss ms) _ (Some f) h) [
+waits_is : {block : ℕ} (p n : ℕ) (ss : List Stream) (ms : List ℕ) (f : ImageFault) → waits_from block p n ss ms ≡ Some f → WaitsIs block p n ss ms f
+waits_is {block} p zero ss ms f h = absurd (some_none (sym h))
+waits_is {block} p (suc n) ss ms f h = elim (chosen (waits_of p ss == masks_of p ms) (waits_from block (p + 1) n ss ms) _ (Some f) h) [
   | inr k ↦ (p, omega arith, omega arith, sym (some_same k.1), (λ e. true≢false (sym (eq_true (waits_of p ss) (masks_of p ms) e) ∙ k.0)), λ r l m. absurd (omega arith))
   | inl k ↦ more (true_eq (waits_of p ss) (masks_of p ms) k.0) (waits_is (p + 1) n ss ms f k.1)
 ]
@@ -101,7 +101,7 @@ waits_is p (suc n) ss ms f h = elim (chosen (waits_of p ss == masks_of p ms) (wa
     by q r true e first l rest = subst (λ (x : ℕ). waits_of x ss ≡ masks_of x ms) (sym (true_eq r p e)) first
     by q r false e first l rest = rest (above r p e l)
 
-    more : waits_of p ss ≡ masks_of p ms → WaitsIs (p + 1) n ss ms f → WaitsIs p (suc n) ss ms f
+    more : waits_of p ss ≡ masks_of p ms → WaitsIs block (p + 1) n ss ms f → WaitsIs block p (suc n) ss ms f
     more e w = (w.0, omega (arith, w.1), omega (arith, w.2), w.3, w.4, λ r l m. by w.0 r (r == p) refl e l (λ a. w.5 r a m))
 
 -- ---- operands
@@ -241,18 +241,18 @@ missing_stands count ss seen u k h =
 
 -- ---- operands
 
-record OperandIs (names : List Entry) (all : List Tuple) (i : ℕ) (ts : List Tuple) (f : BlockFault) : Type 0 where
+record OperandIs (block : ℕ) (names : List Entry) (all : List Tuple) (i : ℕ) (ts : List Tuple) (f : ImageFault) : Type 0 where
   j : ℕ
   tuple : Tuple
   place : ℕ
-  fault : f ≡ Operand (i + j) place
+  fault : f ≡ Operand block (i + j) place
   here : slice_get ts j ≡ Some tuple
   wrong : slice_get (asks names all (i + j) tuple) place ≡ Some false
   before_place : (k : ℕ) (b : Bool) → k < place → slice_get (asks names all (i + j) tuple) k ≡ Some b → b ≡ true
   before : (k : ℕ) (t : Tuple) → k < j → slice_get ts k ≡ Some t → AllByRecursion IsTrueTest (asks names all (i + k) t)
 
-operand_here : (names : List Entry) (all : List Tuple) (i : ℕ) (t : Tuple) (ts : List Tuple) (f : BlockFault) (p : ℕ) → first_false 0 (asks names all i t) ≡ Some p → Operand i p ≡ f → OperandIs names all i (t ∷ ts) f
-operand_here names all i t ts f p h e =
+operand_here : {block : ℕ} (names : List Entry) (all : List Tuple) (i : ℕ) (t : Tuple) (ts : List Tuple) (f : ImageFault) (p : ℕ) → first_false 0 (asks names all i t) ≡ Some p → Operand block i p ≡ f → OperandIs block names all i (t ∷ ts) f
+operand_here {block} names all i t ts f p h e =
     let k = false_is 0 (asks names all i t) p h in
     let z : i ≡ i + 0 = omega arith in
     let q : k.0 ≡ p = omega (arith, k.1) in
@@ -260,21 +260,21 @@ operand_here names all i t ts f p h e =
       j = 0;
       tuple = t;
       place = p;
-      fault = sym e ∙ ap (λ (n : ℕ). Operand n p) z;
+      fault = sym e ∙ ap (λ (n : ℕ). Operand block n p) z;
       here = refl;
       wrong = ap (λ (n : ℕ). slice_get (asks names all n t) p) (sym z) ∙ ap (λ (n : ℕ). slice_get (asks names all i t) n) (sym q) ∙ k.2;
       before_place = λ m b l g. k.3 m b (omega arith) (ap (λ (n : ℕ). slice_get (asks names all n t) m) z ∙ g);
       before = λ m x l. absurd (omega arith);
     }
 
-operand_later : (names : List Entry) (all : List Tuple) (i : ℕ) (t : Tuple) (ts : List Tuple) (f : BlockFault) → first_false 0 (asks names all i t) ≡ None → OperandIs names all (i + 1) ts f → OperandIs names all i (t ∷ ts) f
-operand_later names all i t ts f h k =
+operand_later : {block : ℕ} (names : List Entry) (all : List Tuple) (i : ℕ) (t : Tuple) (ts : List Tuple) (f : ImageFault) → first_false 0 (asks names all i t) ≡ None → OperandIs block names all (i + 1) ts f → OperandIs block names all i (t ∷ ts) f
+operand_later {block} names all i t ts f h k =
     let z : (i + 1) + k.j ≡ i + suc k.j = omega arith in
     record {
       j = suc k.j;
       tuple = k.tuple;
       place = k.place;
-      fault = k.fault ∙ ap (λ (n : ℕ). Operand n k.place) z;
+      fault = k.fault ∙ ap (λ (n : ℕ). Operand block n k.place) z;
       here = k.here;
       wrong = ap (λ (n : ℕ). slice_get (asks names all n k.tuple) k.place) (sym z) ∙ k.wrong;
       before_place = λ m b l g. k.before_place m b l (ap (λ (n : ℕ). slice_get (asks names all n k.tuple) m) z ∙ g);
@@ -285,44 +285,45 @@ operand_later names all i t ts f h k =
     by j r zero x l g = let y : i ≡ i + 0 = omega arith in subst (λ (n : ℕ). AllByRecursion IsTrueTest (asks names all n x)) y (subst (λ (w : Tuple). AllByRecursion IsTrueTest (asks names all i w)) (some_same g) (false_none 0 (asks names all i t) h))
     by j r (suc m) x l g = let y : (i + 1) + m ≡ i + suc m = omega arith in subst (λ (n : ℕ). AllByRecursion IsTrueTest (asks names all n x)) y (r m x (omega arith) g)
 
-operand_is : (names : List Entry) (all : List Tuple) (i : ℕ) (ts : List Tuple) (f : BlockFault) → operand_from names all i ts ≡ Some f → OperandIs names all i ts f
-operand_is names all i [] f h = absurd (some_none (sym h))
-operand_is names all i (t ∷ ts) f h = by (first_false 0 (asks names all i t)) refl h (λ p. operand_is names all (i + 1) ts f p)
+operand_is : {block : ℕ} (names : List Entry) (all : List Tuple) (i : ℕ) (ts : List Tuple) (f : ImageFault) → operand_from block names all i ts ≡ Some f → OperandIs block names all i ts f
+operand_is {block} names all i [] f h = absurd (some_none (sym h))
+operand_is {block} names all i (t ∷ ts) f h = by (first_false 0 (asks names all i t)) refl h (λ p. operand_is names all (i + 1) ts f p)
   where
-    by : (o : Option ℕ) → first_false 0 (asks names all i t) ≡ o → operand_at i o (operand_from names all (i + 1) ts) ≡ Some f → (operand_from names all (i + 1) ts ≡ Some f → OperandIs names all (i + 1) ts f) → OperandIs names all i (t ∷ ts) f
+    by : (o : Option ℕ) → first_false 0 (asks names all i t) ≡ o → operand_at block i o (operand_from block names all (i + 1) ts) ≡ Some f → (operand_from block names all (i + 1) ts ≡ Some f → OperandIs block names all (i + 1) ts f) → OperandIs block names all i (t ∷ ts) f
     by (Some p) e q next = operand_here names all i t ts f p e (some_same q)
     by None e q next = operand_later names all i t ts f e (next q)
 
 -- ---- all together
 
-first_of : (a b : Option BlockFault) (f : BlockFault) → (a orelse b) ≡ Some f → (a ≡ Some f) ⊎ ((a ≡ None) × (b ≡ Some f))
+first_of : (a b : Option ImageFault) (f : ImageFault) → (a orelse b) ≡ Some f → (a ≡ Some f) ⊎ ((a ≡ None) × (b ≡ Some f))
 first_of None b f h = inr (refl, h)
 first_of (Some e) b f h = inl h
 
-module _ (names : List Entry) (processors : ℕ) (tuples : List Tuple) (next : Next) (streams : List Stream) (masks : List ℕ) (fits : AreItems streams) where
-  abbrev First : BlockFault → Type 0
-  First f = IsFirst names processors tuples next streams masks f
+module _ (block : ℕ) (names : List Entry) (processors : ℕ) (tuples : List Tuple) (next : Next) (streams : List Stream) (masks : List ℕ) (fits : AreItems streams) where
+  abbrev First : ImageFault → Type 0
+  First f = IsFirst block names processors tuples next streams masks f
 
-  once_first : (f : BlockFault) → foreign processors streams ≡ None → once_of (length tuples) (seeing_all none_seen streams) ≡ Some f → First f
+  once_first : (f : ImageFault) → foreign block processors streams ≡ None → once_of block (length tuples) (seeing_all none_seen streams) ≡ Some f → First f
   once_first f none h = by (seeing_all none_seen streams) refl h
     where
       own : AllByRecursion (λ (s : Stream). s.processor < processors) streams
-      own = foreign_none processors streams none
+      own = foreign_none block processors streams none
 
-      by_missing : (seen : List Bool) → AllSeen none_seen streams seen → (o : Option ℕ) → missing_from 0 (length tuples) seen ≡ o → elim o as (λ _. Option BlockFault) [ Some t ↦ Some (TupleMissing t) | None ↦ None ] ≡ Some f → First f
+      by_missing : (seen : List Bool) → AllSeen none_seen streams seen → (o : Option ℕ) → missing_from 0 (length tuples) seen ≡ o → elim o as (λ _. Option ImageFault) [ Some t ↦ Some (TupleMissing block t) | None ↦ None ] ≡ Some f → First f
       by_missing seen k None e p = absurd (some_none (sym p))
-      by_missing seen k (Some t) e p = let m = missing_stands (length tuples) streams seen t k e in subst First (some_same p) (own, m.0, m.1)
+      by_missing seen k (Some t) e p = let m = missing_stands (length tuples) streams seen t k e in subst First (some_same p) (refl, own, m.0, m.1)
 
-      by : (r : Result (List Bool) ℕ) → seeing_all none_seen streams ≡ r → once_of (length tuples) r ≡ Some f → First f
-      by (Err t) e p = subst First (some_same p) (own, twice_is streams t fits e)
+      by : (r : Result (List Bool) ℕ) → seeing_all none_seen streams ≡ r → once_of block (length tuples) r ≡ Some f → First f
+      by (Err t) e p = subst First (some_same p) (refl, own, twice_is streams t fits e)
       by (Ok seen) e p = by_missing seen (all_ok none_seen streams seen (none_length 256) fits e) (missing_from 0 (length tuples) seen) refl p
 
-  operand_first : (f : BlockFault) → once_of (length tuples) (seeing_all none_seen streams) ≡ None → operand_from names tuples 0 tuples ≡ Some f → First f
+  operand_first : (f : ImageFault) → once_of block (length tuples) (seeing_all none_seen streams) ≡ None → operand_from block names tuples 0 tuples ≡ Some f → First f
   operand_first f none h =
       let k = operand_is names tuples 0 tuples f h in
       let z : 0 + k.j ≡ k.j = omega arith in
-      subst First (sym (k.fault ∙ ap (λ (n : ℕ). Operand n k.place) z)) (
-        once_none (length tuples) streams fits none,
+      subst First (sym (k.fault ∙ ap (λ (n : ℕ). Operand block n k.place) z)) (
+        refl,
+        once_none block (length tuples) streams fits none,
         record {
           tuple = k.tuple;
           at = k.here;
@@ -332,53 +333,53 @@ module _ (names : List Entry) (processors : ℕ) (tuples : List Tuple) (next : N
         },
       )
 
-  cell_first : (f : BlockFault) → operand_from names tuples 0 tuples ≡ None → cell_fault tuples next ≡ Some f → First f
+  cell_first : (f : ImageFault) → operand_from block names tuples 0 tuples ≡ None → cell_fault block tuples next ≡ Some f → First f
   cell_first f none h = by next refl h
     where
       all : (j : ℕ) (t : Tuple) → slice_get tuples j ≡ Some t → AllByRecursion IsTrueTest (asks names tuples j t)
-      all j t g = subst (λ (n : ℕ). AllByRecursion IsTrueTest (asks names tuples n t)) (let y : 0 + j ≡ j = omega arith in y) (operand_none names tuples 0 tuples none j t g)
+      all j t g = subst (λ (n : ℕ). AllByRecursion IsTrueTest (asks names tuples n t)) (let y : 0 + j ≡ j = omega arith in y) (operand_none block names tuples 0 tuples none j t g)
 
-      by : (n : Next) → next ≡ n → cell_fault tuples n ≡ Some f → First f
+      by : (n : Next) → next ≡ n → cell_fault block tuples n ≡ Some f → First f
       by Halt e p = absurd (some_none (sym p))
       by (Goto b) e p = absurd (some_none (sym p))
-      by (If c x y) e p = elim (chosen (is_value tuples (length tuples) c) None (Some (Cell c)) (Some f) p) [
+      by (If c x y) e p = elim (chosen (is_value tuples (length tuples) c) None (Some (Cell block c)) (Some f) p) [
         | inl q ↦ absurd (some_none (sym q.1))
-        | inr q ↦ subst First (some_same q.1) (all, λ t. (let u : IsTrueCell tuples (If c x y) = subst (IsTrueCell tuples) e t in true≢false (sym u ∙ q.0)))
+        | inr q ↦ subst First (some_same q.1) (refl, all, λ t. (let u : IsTrueCell tuples (If c x y) = subst (IsTrueCell tuples) e t in true≢false (sym u ∙ q.0)))
       ]
 
-  waits_first : (f : BlockFault) → cell_fault tuples next ≡ None → waits_from 0 processors streams masks ≡ Some f → First f
+  waits_first : (f : ImageFault) → cell_fault block tuples next ≡ None → waits_from block 0 processors streams masks ≡ Some f → First f
   waits_first f none h =
       let w = waits_is 0 processors streams masks f h in
-      subst First (sym w.3) (cell_none tuples next none, record { within = omega (arith, w.2); waits = refl; masks_are = refl; uneven = w.4; before = λ q l. w.5 q (omega arith) l })
+      subst First (sym w.3) (refl, cell_none block tuples next none, record { within = omega (arith, w.2); waits = refl; masks_are = refl; uneven = w.4; before = λ q l. w.5 q (omega arith) l })
 
-  empty_first : (f : BlockFault) → waits_from 0 processors streams masks ≡ None → empty_from 0 masks ≡ Some f → First f
+  empty_first : (f : ImageFault) → waits_from block 0 processors streams masks ≡ None → empty_from block 0 masks ≡ Some f → First f
   empty_first f none h =
       let k = empty_is 0 masks f h in
       let z : 0 + k.0 ≡ k.0 = omega arith in
-      subst First (sym (k.1.0 ∙ ap MaskEmpty z)) ((λ q l. waits_none 0 processors streams masks none q (omega arith) (omega arith)), k.1.1)
+      subst First (sym (k.1.0 ∙ ap (MaskEmpty block) z)) (refl, (λ q l. waits_none block 0 processors streams masks none q (omega arith) (omega arith)), k.1.1)
 
-  bit_first : (f : BlockFault) → empty_from 0 masks ≡ None → bit_from processors 0 masks ≡ Some f → First f
+  bit_first : (f : ImageFault) → empty_from block 0 masks ≡ None → bit_from block processors 0 masks ≡ Some f → First f
   bit_first f none h =
       let k = bit_is processors 0 masks f h in
       let z : 0 + k.0 ≡ k.0 = omega arith in
-      subst First (sym (k.1.0 ∙ ap MaskBit z)) (empty_none 0 masks none, k.1.1)
+      subst First (sym (k.1.0 ∙ ap (MaskBit block) z)) (refl, empty_none block 0 masks none, k.1.1)
 
-  foreign_first : (f : BlockFault) → foreign processors streams ≡ Some f → First f
-  foreign_first f h = let k = foreign_is processors streams f h in subst First (sym k.1.0) k.1.1
+  foreign_first : (f : ImageFault) → foreign block processors streams ≡ Some f → First f
+  foreign_first f h = let k = foreign_is processors streams f h in subst First (sym k.1.0) (refl, k.1.1)
 
   -- the fault that is told is the first
-  pub told_first : (f : BlockFault) → first_fault names processors tuples next streams masks ≡ Some f → First f
-  told_first f h = elim (first_of (foreign processors streams) _ f h) [
+  pub told_first : (f : ImageFault) → first_fault block names processors tuples next streams masks ≡ Some f → First f
+  told_first f h = elim (first_of (foreign block processors streams) _ f h) [
     | inl p ↦ foreign_first f p
-    | inr p ↦ elim (first_of (once_of (length tuples) (seeing_all none_seen streams)) _ f p.1) [
+    | inr p ↦ elim (first_of (once_of block (length tuples) (seeing_all none_seen streams)) _ f p.1) [
       | inl q ↦ once_first f p.0 q
-      | inr q ↦ elim (first_of (operand_from names tuples 0 tuples) _ f q.1) [
+      | inr q ↦ elim (first_of (operand_from block names tuples 0 tuples) _ f q.1) [
         | inl r ↦ operand_first f q.0 r
-        | inr r ↦ elim (first_of (cell_fault tuples next) _ f r.1) [
+        | inr r ↦ elim (first_of (cell_fault block tuples next) _ f r.1) [
           | inl s ↦ cell_first f r.0 s
-          | inr s ↦ elim (first_of (waits_from 0 processors streams masks) _ f s.1) [
+          | inr s ↦ elim (first_of (waits_from block 0 processors streams masks) _ f s.1) [
             | inl t ↦ waits_first f s.0 t
-            | inr t ↦ elim (first_of (empty_from 0 masks) (bit_from processors 0 masks) f t.1) [
+            | inr t ↦ elim (first_of (empty_from block 0 masks) (bit_from block processors 0 masks) f t.1) [
               | inl u ↦ empty_first f t.0 u
               | inr u ↦ bit_first f u.0 u.1
             ]

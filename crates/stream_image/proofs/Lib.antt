@@ -8,6 +8,7 @@ pub mod LineKept
 pub mod OrderPairs
 pub mod Put
 pub mod ImageFacts
+pub mod ImageLine
 pub mod ClassTimes
 pub mod GivenStreams
 pub mod Accepted

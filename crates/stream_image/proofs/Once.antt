@@ -7,8 +7,8 @@ use Rattle.std.proofs.lemmas.Bool.Decides.{nat_tests}
 use Rattle.line_model.specs.declared.line.StreamItem.{StreamItem}
 use Rattle.line_model.specs.declared.line.StreamItem.TheVariants.{Do, Wait}
 use Rattle.stream_image.specs.declared.given.Stream.{Stream}
-use Rattle.stream_image.specs.declared.fault.BlockFault.{BlockFault}
-use Rattle.stream_image.specs.declared.fault.BlockFault.TheVariants.{TupleMissing}
+use Rattle.stream_image.specs.declared.fault.ImageFault.{ImageFault}
+use Rattle.stream_image.specs.declared.fault.ImageFault.TheVariants.{TupleMissing}
 use Rattle.stream_image.specs.Check.{seeing, seeing_all, missing_from, none_seen, once_of}
 use Rattle.stream_image.specs.Keeps.{count_in, count_all, once_if, ItemFits, AreItems}
 
@@ -180,10 +180,10 @@ pub start_at : (t : ℕ) → at none_seen t ≡ 0
 start_at t = ap once_if (none_at 256 t)
 
 -- the test of numbers passes exactly where each tuple stands once, and nothing else
-pub once_none : (count : ℕ) (ss : List Stream) → AreItems ss → once_of count (seeing_all none_seen ss) ≡ None → Once count ss
-once_none count ss f h = by (seeing_all none_seen ss) refl h
+pub once_none : (block : ℕ) (count : ℕ) (ss : List Stream) → AreItems ss → once_of block count (seeing_all none_seen ss) ≡ None → Once count ss
+once_none block count ss f h = by (seeing_all none_seen ss) refl h
   where
-    by_missing : (seen : List Bool) → AllSeen none_seen ss seen → (o : Option ℕ) → missing_from 0 count seen ≡ o → elim o as (λ _. Option BlockFault) [ Some t ↦ Some (TupleMissing t) | None ↦ None ] ≡ None → Once count ss
+    by_missing : (seen : List Bool) → AllSeen none_seen ss seen → (o : Option ℕ) → missing_from 0 count seen ≡ o → elim o as (λ _. Option ImageFault) [ Some t ↦ Some (TupleMissing block t) | None ↦ None ] ≡ None → Once count ss
     by_missing seen k (Some t) e p = absurd (some_none p)
     by_missing seen k None e p = λ t l.
         (let m = none_missing 0 count seen e t (omega (arith, k.0)) in
@@ -191,21 +191,21 @@ once_none count ss f h = by (seeing_all none_seen ss) refl h
         let a : at seen t ≡ once_if (nat_lt t count) = ap once_if (m ∙ ap (λ (n : ℕ). nat_lt n count) z) in
         omega (arith, k.1 t, start_at t))
 
-    by : (r : Result (List Bool) ℕ) → seeing_all none_seen ss ≡ r → once_of count r ≡ None → Once count ss
+    by : (r : Result (List Bool) ℕ) → seeing_all none_seen ss ≡ r → once_of block count r ≡ None → Once count ss
     by (Err t) e p = absurd (some_none p)
     by (Ok seen) e p = by_missing seen (all_ok none_seen ss seen (none_length 256) f e) (missing_from 0 count seen) refl p
 
-pub none_once : (count : ℕ) (ss : List Stream) → AreItems ss → Once count ss → once_of count (seeing_all none_seen ss) ≡ None
-none_once count ss f h = by (seeing_all none_seen ss) refl
+pub none_once : (block : ℕ) (count : ℕ) (ss : List Stream) → AreItems ss → Once count ss → once_of block count (seeing_all none_seen ss) ≡ None
+none_once block count ss f h = by (seeing_all none_seen ss) refl
   where
-    by : (r : Result (List Bool) ℕ) → seeing_all none_seen ss ≡ r → once_of count r ≡ None
+    by : (r : Result (List Bool) ℕ) → seeing_all none_seen ss ≡ r → once_of block count r ≡ None
     by (Err t) e =
         let k = all_err none_seen ss t (none_length 256) f e in
         absurd (omega (arith, start_at t, h t k.0, once_few (nat_lt t count), k.1))
     by (Ok seen) e =
         let k = all_ok none_seen ss seen (none_length 256) f e in
         let m = missing_none 0 count seen (λ i l. once_same (get_or seen i false) (nat_lt (0 + i) count) (k.1 i ∙ each i (omega (arith, k.0)))) in
-        ap (λ (o : Option ℕ). elim o as (λ _. Option BlockFault) [ Some t ↦ Some (TupleMissing t) | None ↦ None ]) m
+        ap (λ (o : Option ℕ). elim o as (λ _. Option ImageFault) [ Some t ↦ Some (TupleMissing block t) | None ↦ None ]) m
       where
         each : (i : ℕ) → i < 256 → at none_seen i + count_all i ss ≡ once_if (nat_lt (0 + i) count)
         each i l =

@@ -1,4 +1,4 @@
--- The first thing that a block does not keep.
+-- The first thing that the block of a number does not keep.
 use Rattle.std.specs.Prelude.{ℕ, zero, suc, ◌+◌, ◌/◌, ◌^◌, ◌==◌, nat_lt, Bool, true, false, if◌then◌else◌}
 use Rattle.std.specs.Prelude.{Option, Some, None, Result, Ok, Err, List, [], ◌∷◌, length, get_or, slice_get, slice_set, replicate}
 use Rattle.bm_base.specs.declared.names.Kind.TheVariants.{Var, Array}
@@ -12,14 +12,14 @@ use Rattle.tuple_ir.specs.Kinds.{has_value}
 use Rattle.line_model.specs.declared.line.StreamItem.{StreamItem}
 use Rattle.line_model.specs.declared.line.StreamItem.TheVariants.{Do, Wait}
 use Rattle.stream_image.specs.declared.given.Stream.{Stream}
-use Rattle.stream_image.specs.declared.fault.BlockFault.{BlockFault}
-use Rattle.stream_image.specs.declared.fault.BlockFault.TheVariants.{Processor, TupleTwice, TupleMissing, Operand}
-use Rattle.stream_image.specs.declared.fault.BlockFault.TheVariants.{Cell, Waits, MaskEmpty, MaskBit}
+use Rattle.stream_image.specs.declared.fault.ImageFault.{ImageFault}
+use Rattle.stream_image.specs.declared.fault.ImageFault.TheVariants.{Processor, TupleTwice, TupleMissing, Operand}
+use Rattle.stream_image.specs.declared.fault.ImageFault.TheVariants.{Cell, Waits, MaskEmpty, MaskBit}
 
 -- the first stream whose processor the machine lacks
-abbrev pub foreign : ℕ → List Stream → Option BlockFault
-foreign processors [] = None
-foreign processors (s ∷ ss) = if nat_lt s.processor processors then foreign processors ss else Some (Processor s.processor)
+abbrev pub foreign : (block : ℕ) → ℕ → List Stream → Option ImageFault
+foreign block processors [] = None
+foreign block processors (s ∷ ss) = if nat_lt s.processor processors then foreign block processors ss else Some (Processor block s.processor)
 
 -- the numbers seen with those of these items, or the first that was seen before
 abbrev pub seeing : List Bool → List StreamItem → Result (List Bool) ℕ
@@ -70,19 +70,19 @@ abbrev pub first_false : ℕ → List Bool → Option ℕ
 first_false place [] = None
 first_false place (b ∷ bs) = if b then first_false (place + 1) bs else Some place
 
-abbrev pub operand_at : ℕ → Option ℕ → Option BlockFault → Option BlockFault
-operand_at i (Some place) rest = Some (Operand i place)
-operand_at i None rest = rest
+abbrev pub operand_at : (block : ℕ) → ℕ → Option ℕ → Option ImageFault → Option ImageFault
+operand_at block i (Some place) rest = Some (Operand block i place)
+operand_at block i None rest = rest
 
 -- the first tuple from number i on with such a place
-abbrev pub operand_from : List Entry → List Tuple → ℕ → List Tuple → Option BlockFault
-operand_from names tuples i [] = None
-operand_from names tuples i (t ∷ ts) = operand_at i (first_false 0 (asks names tuples i t)) (operand_from names tuples (i + 1) ts)
+abbrev pub operand_from : (block : ℕ) → List Entry → List Tuple → ℕ → List Tuple → Option ImageFault
+operand_from block names tuples i [] = None
+operand_from block names tuples i (t ∷ ts) = operand_at block i (first_false 0 (asks names tuples i t)) (operand_from block names tuples (i + 1) ts)
 
-abbrev pub cell_fault : List Tuple → Next → Option BlockFault
-cell_fault tuples Halt = None
-cell_fault tuples (Goto b) = None
-cell_fault tuples (If c one other) = if is_value tuples (length tuples) c then None else Some (Cell c)
+abbrev pub cell_fault : (block : ℕ) → List Tuple → Next → Option ImageFault
+cell_fault block tuples Halt = None
+cell_fault block tuples (Goto b) = None
+cell_fault block tuples (If c one other) = if is_value tuples (length tuples) c then None else Some (Cell block c)
 
 abbrev pub waits_in : List StreamItem → ℕ
 waits_in [] = 0
@@ -99,34 +99,34 @@ masks_of p [] = 0
 masks_of p (m ∷ ms) = if has_bit m p then masks_of p ms + 1 else masks_of p ms
 
 -- the first of so many processors from p on whose waits are not as many as its masks
-abbrev pub waits_from : ℕ → ℕ → List Stream → List ℕ → Option BlockFault
-waits_from p zero streams masks = None
-waits_from p (suc count) streams masks =
-    if waits_of p streams == masks_of p masks then waits_from (p + 1) count streams masks
-    else Some (Waits p (waits_of p streams) (masks_of p masks))
+abbrev pub waits_from : (block : ℕ) → ℕ → ℕ → List Stream → List ℕ → Option ImageFault
+waits_from block p zero streams masks = None
+waits_from block p (suc count) streams masks =
+    if waits_of p streams == masks_of p masks then waits_from block (p + 1) count streams masks
+    else Some (Waits block p (waits_of p streams) (masks_of p masks))
 
-abbrev pub empty_from : ℕ → List ℕ → Option BlockFault
-empty_from j [] = None
-empty_from j (m ∷ ms) = if m == 0 then Some (MaskEmpty j) else empty_from (j + 1) ms
+abbrev pub empty_from : (block : ℕ) → ℕ → List ℕ → Option ImageFault
+empty_from block j [] = None
+empty_from block j (m ∷ ms) = if m == 0 then Some (MaskEmpty block j) else empty_from block (j + 1) ms
 
-abbrev pub bit_from : ℕ → ℕ → List ℕ → Option BlockFault
-bit_from processors j [] = None
-bit_from processors j (m ∷ ms) = if m / 2 ^ processors == 0 then bit_from processors (j + 1) ms else Some (MaskBit j)
+abbrev pub bit_from : (block : ℕ) → ℕ → ℕ → List ℕ → Option ImageFault
+bit_from block processors j [] = None
+bit_from block processors j (m ∷ ms) = if m / 2 ^ processors == 0 then bit_from block processors (j + 1) ms else Some (MaskBit block j)
 
 infixr 4 ◌orelse◌
 -- the first, or else the second
-abbrev pub ◌orelse◌ : Option BlockFault → Option BlockFault → Option BlockFault
+abbrev pub ◌orelse◌ : Option ImageFault → Option ImageFault → Option ImageFault
 None orelse second = second
 (Some e) orelse second = Some e
 
 abbrev pub none_seen : List Bool
 none_seen = replicate 256 false
 
-abbrev pub once_of : ℕ → Result (List Bool) ℕ → Option BlockFault
-once_of count (Err t) = Some (TupleTwice t)
-once_of count (Ok seen) = elim (missing_from 0 count seen) [ Some t ↦ Some (TupleMissing t) | None ↦ None ]
+abbrev pub once_of : (block : ℕ) → ℕ → Result (List Bool) ℕ → Option ImageFault
+once_of block count (Err t) = Some (TupleTwice block t)
+once_of block count (Ok seen) = elim (missing_from 0 count seen) [ Some t ↦ Some (TupleMissing block t) | None ↦ None ]
 
-abbrev pub first_fault : List Entry → ℕ → List Tuple → Next → List Stream → List ℕ → Option BlockFault
-first_fault names processors tuples next streams masks =
-    foreign processors streams orelse once_of (length tuples) (seeing_all none_seen streams) orelse operand_from names tuples 0 tuples
-    orelse cell_fault tuples next orelse waits_from 0 processors streams masks orelse empty_from 0 masks orelse bit_from processors 0 masks
+abbrev pub first_fault : (block : ℕ) → List Entry → ℕ → List Tuple → Next → List Stream → List ℕ → Option ImageFault
+first_fault block names processors tuples next streams masks =
+    foreign block processors streams orelse once_of block (length tuples) (seeing_all none_seen streams) orelse operand_from block names tuples 0 tuples
+    orelse cell_fault block tuples next orelse waits_from block 0 processors streams masks orelse empty_from block 0 masks orelse bit_from block processors 0 masks

@@ -8,9 +8,9 @@ use Rattle.tuple_ir.specs.declared.block.Next.{Next}
 use Rattle.line_model.specs.declared.line.StreamItem.{StreamItem}
 use Rattle.line_model.specs.declared.line.StreamItem.TheVariants.{Do, Wait}
 use Rattle.stream_image.specs.declared.given.Stream.{Stream}
-use Rattle.stream_image.specs.declared.fault.BlockFault.{BlockFault}
-use Rattle.stream_image.specs.declared.fault.BlockFault.TheVariants.{Processor, TupleTwice, TupleMissing, Operand}
-use Rattle.stream_image.specs.declared.fault.BlockFault.TheVariants.{Cell, Waits, MaskEmpty, MaskBit}
+use Rattle.stream_image.specs.declared.fault.ImageFault.{ImageFault}
+use Rattle.stream_image.specs.declared.fault.ImageFault.TheVariants.{Processor, TupleTwice, TupleMissing, Operand}
+use Rattle.stream_image.specs.declared.fault.ImageFault.TheVariants.{Cell, Waits, MaskEmpty, MaskBit}
 use Rattle.stream_image.specs.Check.{asks, waits_of, masks_of, first_fault}
 use Rattle.stream_image.specs.Keeps.{count_all, once_if, IsTrueTest, IsTrueCell, AreItems}
 
@@ -81,24 +81,25 @@ pub record IsForeignBit (processors : ℕ) (masks : List ℕ) (j : ℕ) : Type 0
   pub lacked : 2 ^ processors ≤ mask
   pub before : (i m : ℕ) → i < j → slice_get masks i ≡ Some m → m < 2 ^ processors
 
-module _ (names : List Entry) (processors : ℕ) (tuples : List Tuple) (next : Next) (streams : List Stream) (masks : List ℕ) where
-  -- the fault stands, and nothing that comes before it in the order of faults
-  abbrev pub IsFirst : BlockFault → Type 0
-  IsFirst (Processor p) = IsForeign processors streams p
-  IsFirst (TupleTwice t) = AllByRecursion (λ (s : Stream). s.processor < processors) streams × IsTwice streams t
-  IsFirst (TupleMissing t) =
-      AllByRecursion (λ (s : Stream). s.processor < processors) streams ×
+module _ (block : ℕ) (names : List Entry) (processors : ℕ) (tuples : List Tuple) (next : Next) (streams : List Stream) (masks : List ℕ) where
+  -- the fault is of this block and stands, and nothing that comes before it in the order of faults
+  abbrev pub IsFirst : ImageFault → Type 0
+  IsFirst (Processor n p) = (n ≡ block) × IsForeign processors streams p
+  IsFirst (TupleTwice n t) = (n ≡ block) × AllByRecursion (λ (s : Stream). s.processor < processors) streams × IsTwice streams t
+  IsFirst (TupleMissing n t) =
+      (n ≡ block) × AllByRecursion (λ (s : Stream). s.processor < processors) streams ×
       ((u : ℕ) → u < 256 → count_all u streams ≤ 1) × IsMissing (length tuples) streams t
-  IsFirst (Operand i place) =
-      ((u : ℕ) → u < 256 → count_all u streams ≡ once_if (nat_lt u (length tuples))) × IsWrongOperand names tuples i place
-  IsFirst (Cell c) =
-      ((j : ℕ) (t : Tuple) → slice_get tuples j ≡ Some t → AllByRecursion IsTrueTest (asks names tuples j t)) × (IsTrueCell tuples next → ⊥)
-  IsFirst (Waits p w m) = IsTrueCell tuples next × IsUneven processors streams masks p w m
-  IsFirst (MaskEmpty j) = ((q : ℕ) → q < processors → waits_of q streams ≡ masks_of q masks) × IsEmptyMask masks j
-  IsFirst (MaskBit j) = AllByRecursion (λ (m : ℕ). m ≡ 0 → ⊥) masks × IsForeignBit processors masks j
+  IsFirst (Operand n i place) =
+      (n ≡ block) × ((u : ℕ) → u < 256 → count_all u streams ≡ once_if (nat_lt u (length tuples))) × IsWrongOperand names tuples i place
+  IsFirst (Cell n c) =
+      (n ≡ block) × ((j : ℕ) (t : Tuple) → slice_get tuples j ≡ Some t → AllByRecursion IsTrueTest (asks names tuples j t)) × (IsTrueCell tuples next → ⊥)
+  IsFirst (Waits n p w m) = (n ≡ block) × IsTrueCell tuples next × IsUneven processors streams masks p w m
+  IsFirst (MaskEmpty n j) = (n ≡ block) × ((q : ℕ) → q < processors → waits_of q streams ≡ masks_of q masks) × IsEmptyMask masks j
+  IsFirst (MaskBit n j) = (n ≡ block) × AllByRecursion (λ (m : ℕ). m ≡ 0 → ⊥) masks × IsForeignBit processors masks j
+  IsFirst _ = ⊥
 
 -- what the test tells is the first fault
 pub record IsTold : Type 0 where
-  pub first : (names : List Entry) (processors : ℕ) (tuples : List Tuple) (next : Next) (streams : List Stream) (masks : List ℕ) →
-      AreItems streams → (f : BlockFault) → first_fault names processors tuples next streams masks ≡ Some f →
-      IsFirst names processors tuples next streams masks f
+  pub first : (block : ℕ) (names : List Entry) (processors : ℕ) (tuples : List Tuple) (next : Next) (streams : List Stream) (masks : List ℕ) →
+      AreItems streams → (f : ImageFault) → first_fault block names processors tuples next streams masks ≡ Some f →
+      IsFirst block names processors tuples next streams masks f

@@ -58,7 +58,7 @@ AreItems streams = AllByRecursion (λ (s : Stream). AllByRecursion ItemFits s.it
 
 -- for streams whose items are numbers below 256, as all are
 pub record IsTest : Type 0 where
-  pub kept : (names : List Entry) (processors : ℕ) (tuples : List Tuple) (next : Next) (streams : List Stream) (masks : List ℕ) →
-      AreItems streams → first_fault names processors tuples next streams masks ≡ None → Keeps names processors tuples next streams masks
-  pub passes : (names : List Entry) (processors : ℕ) (tuples : List Tuple) (next : Next) (streams : List Stream) (masks : List ℕ) →
-      AreItems streams → Keeps names processors tuples next streams masks → first_fault names processors tuples next streams masks ≡ None
+  pub kept : (block : ℕ) (names : List Entry) (processors : ℕ) (tuples : List Tuple) (next : Next) (streams : List Stream) (masks : List ℕ) →
+      AreItems streams → first_fault block names processors tuples next streams masks ≡ None → Keeps names processors tuples next streams masks
+  pub passes : (block : ℕ) (names : List Entry) (processors : ℕ) (tuples : List Tuple) (next : Next) (streams : List Stream) (masks : List ℕ) →
+      AreItems streams → Keeps names processors tuples next streams masks → first_fault block names processors tuples next streams masks ≡ None

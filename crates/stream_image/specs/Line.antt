@@ -50,3 +50,11 @@ line_of n streams (m ∷ ms) = ahead n (has_bit m) streams ++ Bar m ∷ line_of 
 -- a line is the one of its own streams and masks
 abbrev pub IsOwnLine : ℕ → List Item → Type 0
 IsOwnLine n line = line ≡ line_of n (λ p. stream p line) (masks line)
+
+-- Of private functions: among these streams each processor below n has these items
+abbrev pub AreOf : ℕ → (ℕ → List StreamItem) → List Stream → Type 0
+AreOf n streams given = (p : ℕ) → p < n → items_of given p ≡ streams p
+
+-- .. and no other processor has a stream
+abbrev pub AreBelow : ℕ → List Stream → Type 0
+AreBelow n given = AllByRecursion (λ (s : Stream). s.processor < n) given

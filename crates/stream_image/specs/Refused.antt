@@ -9,26 +9,12 @@ use Rattle.line_model.specs.declared.line.Item.{Item}
 use Rattle.time_interval.specs.Bounds.{Pace, pace_on}
 use Rattle.unit_law.specs.State.{Program}
 use Rattle.stream_image.specs.declared.given.Stream.{Stream}
-use Rattle.stream_image.specs.declared.fault.BlockFault.{BlockFault}
-use Rattle.stream_image.specs.declared.fault.BlockFault.TheVariants as found
 use Rattle.stream_image.specs.declared.fault.ImageFault.{ImageFault}
-use Rattle.stream_image.specs.declared.fault.ImageFault.TheVariants.{Processor, TupleTwice, TupleMissing, Operand, Cell}
-use Rattle.stream_image.specs.declared.fault.ImageFault.TheVariants.{Waits, MaskEmpty, MaskBit, Order, Unordered, Target}
+use Rattle.stream_image.specs.declared.fault.ImageFault.TheVariants.{Order, Unordered, Target}
 use Rattle.stream_image.specs.declared.order.Wrong.TheVariants.{Turned, Loose}
 use Rattle.stream_image.specs.Check.{first_fault}
 use Rattle.stream_image.specs.Line.{items_of, line_of}
 use Rattle.stream_image.specs.Order.{NoneWrong, IsFirstWrong}
-
--- the fault of the block of this number
-abbrev pub in_block : ℕ → BlockFault → ImageFault
-in_block n (found.Processor p) = Processor n p
-in_block n (found.TupleTwice t) = TupleTwice n t
-in_block n (found.TupleMissing t) = TupleMissing n t
-in_block n (found.Operand t place) = Operand n t place
-in_block n (found.Cell c) = Cell n c
-in_block n (found.Waits p w m) = Waits n p w m
-in_block n (found.MaskEmpty j) = MaskEmpty n j
-in_block n (found.MaskBit j) = MaskBit n j
 
 -- of two tuples that conflict and stand on one processor the later one is first: the first such pair
 pub record IsTurned (pace : Pace) (tuples : List Tuple) (line : List Item) (n : ℕ) (fault : ImageFault) : Type 0 where
@@ -62,15 +48,14 @@ TellsOrder machine block line n found =
     (IsOrderFault (pace_on machine block.tuples) block.tuples line n)
 
 -- why the next block of an image is refused: the first fault of its streams and masks, else of its order
-abbrev pub fault_of : Program → Block → List Stream → List ℕ → Option BlockFault
-fault_of m block streams masks = first_fault m.names m.machine.processors block.tuples block.next streams masks
+abbrev pub fault_of : Program → Block → List Stream → List ℕ → Option ImageFault
+fault_of m block streams masks = first_fault (length m.blocks) m.names m.machine.processors block.tuples block.next streams masks
 
 abbrev pub line_in : Program → List Stream → List ℕ → List Item
 line_in m streams masks = line_of m.machine.processors (items_of streams) masks
 
 pub data IsRefused (m : Program) (block : Block) (streams : List Stream) (masks : List ℕ) (fault : ImageFault) : Type 0 where
-  unkept : (f : BlockFault) → fault_of m block streams masks ≡ Some f →
-      fault ≡ in_block (length m.blocks) f → IsRefused m block streams masks fault
+  unkept : fault_of m block streams masks ≡ Some fault → IsRefused m block streams masks fault
   unordered : fault_of m block streams masks ≡ None →
       IsOrderFault (pace_on m.machine block.tuples) block.tuples (line_in m streams masks) (length m.blocks) fault →
       IsRefused m block streams masks fault

@@ -9,7 +9,7 @@ ghost use Rattle.stream_image.specs.Refused as spec;
 
 use crate::bytes::streams_are_bytes;
 use crate::check::first_fault;
-use crate::fault::{ImageFault, in_block};
+use crate::fault::ImageFault;
 use crate::given::Stream;
 use crate::image::{Image, machine_is_lawful};
 use crate::order::order_fault;
@@ -81,6 +81,7 @@ impl ImageBuilder {
         let number = self.held.len() as u32;
         let n = self.spec.processors();
         if let Some(fault) = first_fault(
+            number,
             &self.names,
             n,
             block.tuples.items(),
@@ -88,7 +89,7 @@ impl ImageBuilder {
             streams,
             masks,
         ) {
-            return Err(in_block(number, fault));
+            return Err(fault);
         }
         match order_fault(self.alloc, number, &block, streams, masks, &self.spec) {
             Ok(None) => {}

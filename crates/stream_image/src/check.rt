@@ -2,7 +2,7 @@
 ghost use Rattle.std.specs.Prelude.{◌≡◌, ◌≤◌, ◌<◌, ◌^◌, ◌/◌, ◌==◌, not, slice_get, length, Ok, Err, OnOk, IfErr, List, Bool};
 ghost use Rattle.stream_image.specs.Check as spec;
 
-use crate::fault::BlockFault;
+use crate::fault::ImageFault;
 use crate::given::Stream;
 use bm_base::{Kind, MOST_MASKS, MOST_PROCESSORS, MOST_TUPLES, Mask, Names};
 use line_model::StreamItem;
@@ -11,12 +11,13 @@ use tuple_ir::{Next, Tuple, gives_value};
 const NUMBERS: usize = 256;
 
 /// The first stream whose processor the machine lacks.
-fn foreign(processors: u8, streams: &[Stream]) -> Option<BlockFault>
-    ensures { result ≡ spec.foreign processors streams.now }
+fn foreign(block: u32, processors: u8, streams: &[Stream]) -> Option<ImageFault>
+    ensures { result ≡ spec.foreign block processors streams.now }
 {
     for stream in streams {
         if stream.processor >= processors {
-            return Some(BlockFault::Processor {
+            return Some(ImageFault::Processor {
+                block,
                 processor: stream.processor,
             });
         }
@@ -141,13 +142,14 @@ fn bad_place(names: &Names, tuples: &[Tuple], i: usize, tuple: Tuple) -> Option<
 }
 
 /// The first operand that is not of the right kind.
-fn operand(names: &Names, tuples: &[Tuple]) -> Option<BlockFault>
+fn operand(block: u32, names: &Names, tuples: &[Tuple]) -> Option<ImageFault>
     requires { length tuples.now ≤ MOST_TUPLES }
-    ensures { result ≡ spec.operand_from names.now tuples.now 0 tuples.now }
+    ensures { result ≡ spec.operand_from block names.now tuples.now 0 tuples.now }
 {
     for (i, tuple) in tuples.iter().enumerate() {
         if let Some(place) = bad_place(names, tuples, i, *tuple) {
-            return Some(BlockFault::Operand {
+            return Some(ImageFault::Operand {
+                block,
                 tuple: i as u8,
                 place,
             });
@@ -156,14 +158,14 @@ fn operand(names: &Names, tuples: &[Tuple]) -> Option<BlockFault>
     None
 }
 
-fn cell(tuples: &[Tuple], next: Next) -> Option<BlockFault>
-    ensures { result ≡ spec.cell_fault tuples.now next }
+fn cell(block: u32, tuples: &[Tuple], next: Next) -> Option<ImageFault>
+    ensures { result ≡ spec.cell_fault block tuples.now next }
 {
     match next {
         Next::If { cell, .. } => if is_value(tuples, tuples.len(), cell) {
             None
         } else {
-            Some(BlockFault::Cell { cell })
+            Some(ImageFault::Cell { block, cell })
         },
         _ => None,
     }
@@ -208,15 +210,16 @@ fn masks_of(processor: u8, masks: &[Mask]) -> u8
 }
 
 /// The first processor whose waits are not as many as its masks.
-fn waits(processors: u8, streams: &[Stream], masks: &[Mask]) -> Option<BlockFault>
+fn waits(block: u32, processors: u8, streams: &[Stream], masks: &[Mask]) -> Option<ImageFault>
     requires { length masks.now ≤ MOST_MASKS }
-    ensures { result ≡ spec.waits_from 0 processors streams.now masks.now }
+    ensures { result ≡ spec.waits_from block 0 processors streams.now masks.now }
 {
     for processor in 0..processors {
         let waits = waits_of(processor, streams);
         let masks = masks_of(processor, masks);
         if waits != u64::from(masks) {
-            return Some(BlockFault::Waits {
+            return Some(ImageFault::Waits {
+                block,
                 processor,
                 waits,
                 masks,
@@ -227,13 +230,16 @@ fn waits(processors: u8, streams: &[Stream], masks: &[Mask]) -> Option<BlockFaul
 }
 
 /// The first mask without a processor.
-fn empty(masks: &[Mask]) -> Option<BlockFault>
+fn empty(block: u32, masks: &[Mask]) -> Option<ImageFault>
     requires { length masks.now ≤ MOST_MASKS }
-    ensures { result ≡ spec.empty_from 0 masks.now }
+    ensures { result ≡ spec.empty_from block 0 masks.now }
 {
     for (j, mask) in masks.iter().enumerate() {
         if mask.is_empty() {
-            return Some(BlockFault::MaskEmpty { mask: j as u8 });
+            return Some(ImageFault::MaskEmpty {
+                block,
+                mask: j as u8,
+            });
         }
     }
     None
@@ -248,63 +254,67 @@ fn has_foreign(processors: u8, mask: Mask) -> bool
 }
 
 /// The first mask with a processor that the machine lacks.
-fn foreign_bit(processors: u8, masks: &[Mask]) -> Option<BlockFault>
+fn foreign_bit(block: u32, processors: u8, masks: &[Mask]) -> Option<ImageFault>
     requires { length masks.now ≤ MOST_MASKS }
-    ensures { result ≡ spec.bit_from processors 0 masks.now }
+    ensures { result ≡ spec.bit_from block processors 0 masks.now }
 {
     for (j, mask) in masks.iter().enumerate() {
         if has_foreign(processors, *mask) {
-            return Some(BlockFault::MaskBit { mask: j as u8 });
+            return Some(ImageFault::MaskBit {
+                block,
+                mask: j as u8,
+            });
         }
     }
     None
 }
 
-/// The first thing that a block does not keep, in the order of `BlockFault`; None exactly where it
-/// keeps all.
+/// The first thing that the block of this number does not keep, in the order of `ImageFault`; None
+/// exactly where it keeps all.
 pub(crate) fn first_fault(
+    block: u32,
     names: &Names,
     processors: u8,
     tuples: &[Tuple],
     next: Next,
     streams: &[Stream],
     masks: &[Mask],
-) -> Option<BlockFault>
+) -> Option<ImageFault>
     requires tuples { length tuples.now ≤ MOST_TUPLES }
     requires masks { length masks.now ≤ MOST_MASKS }
-    ensures { result ≡ spec.first_fault names.now processors tuples.now next streams.now masks.now }
+    ensures { result ≡ spec.first_fault block names.now processors tuples.now next streams.now masks.now }
 {
-    if let Some(fault) = foreign(processors, streams) {
+    if let Some(fault) = foreign(block, processors, streams) {
         return Some(fault);
     }
-    if let Some(fault) = once(tuples.len(), streams) {
+    if let Some(fault) = once(block, tuples.len(), streams) {
         return Some(fault);
     }
-    if let Some(fault) = operand(names, tuples) {
+    if let Some(fault) = operand(block, names, tuples) {
         return Some(fault);
     }
-    if let Some(fault) = cell(tuples, next) {
+    if let Some(fault) = cell(block, tuples, next) {
         return Some(fault);
     }
-    if let Some(fault) = waits(processors, streams, masks) {
+    if let Some(fault) = waits(block, processors, streams, masks) {
         return Some(fault);
     }
-    if let Some(fault) = empty(masks) {
+    if let Some(fault) = empty(block, masks) {
         return Some(fault);
     }
-    foreign_bit(processors, masks)
+    foreign_bit(block, processors, masks)
 }
 
 /// The first number that stands twice in the streams, or the least that is in one of the tuples and
 /// the streams and not in the other.
-fn once(count: usize, streams: &[Stream]) -> Option<BlockFault>
-    ensures { result ≡ spec.once_of count (spec.seeing_all spec.none_seen streams.now) }
+fn once(block: u32, count: usize, streams: &[Stream]) -> Option<ImageFault>
+    ensures { result ≡ spec.once_of block count (spec.seeing_all spec.none_seen streams.now) }
 {
     let mut seen = [false; NUMBERS];
     match see_all(&mut seen, streams) {
-        Err(tuple) => Some(BlockFault::TupleTwice { tuple }),
+        Err(tuple) => Some(ImageFault::TupleTwice { block, tuple }),
         Ok(()) => match missing(count, &seen) {
-            Some(tuple) => Some(BlockFault::TupleMissing { tuple }),
+            Some(tuple) => Some(ImageFault::TupleMissing { block, tuple }),
             None => None,
         },
     }

@@ -1,48 +1,4 @@
 // Why a block, or an image, is refused.
-ghost use Rattle.std.specs.Prelude.{◌≡◌};
-ghost use Rattle.stream_image.specs.Refused as spec;
-
-/// The first thing that a block with its streams and masks does not keep, in this order; that its
-/// conflicting pairs are in order comes behind these.
-#[derive(Clone, Copy)]
-pub enum BlockFault {
-    /// A stream is given for a processor that the machine lacks; the lowest.
-    Processor {
-        processor: u8,
-    },
-    /// A number stands twice in the streams; the first repeat.
-    TupleTwice {
-        tuple: u8,
-    },
-    /// A number is a tuple and in no stream, or in a stream and no tuple; the least.
-    TupleMissing {
-        tuple: u8,
-    },
-    /// An operand is not an earlier value, or a name is not of the right kind; the first.
-    Operand {
-        tuple: u8,
-        place: u8,
-    },
-    /// The cell of `if` is not a value.
-    Cell {
-        cell: u8,
-    },
-    /// The waits of a processor are not as many as the masks that have it; the lowest.
-    Waits {
-        processor: u8,
-        waits: u64,
-        masks: u8,
-    },
-    /// A mask has no processor; the first.
-    MaskEmpty {
-        mask: u8,
-    },
-    /// A mask has a processor that the machine lacks; the first.
-    MaskBit {
-        mask: u8,
-    },
-}
-
 /// Why a block or an image is refused: the first cause in this order.
 #[derive(Clone, Copy)]
 pub enum ImageFault {
@@ -110,33 +66,4 @@ pub enum ImageFault {
     },
     /// Memory ran out.
     Memory,
-}
-
-/// The fault of the block of this number.
-pub(crate) fn in_block(block: u32, fault: BlockFault) -> ImageFault
-    ensures { result ≡ spec.in_block block fault }
-{
-    match fault {
-        BlockFault::Processor { processor } => ImageFault::Processor { block, processor },
-        BlockFault::TupleTwice { tuple } => ImageFault::TupleTwice { block, tuple },
-        BlockFault::TupleMissing { tuple } => ImageFault::TupleMissing { block, tuple },
-        BlockFault::Operand { tuple, place } => ImageFault::Operand {
-            block,
-            tuple,
-            place,
-        },
-        BlockFault::Cell { cell } => ImageFault::Cell { block, cell },
-        BlockFault::Waits {
-            processor,
-            waits,
-            masks,
-        } => ImageFault::Waits {
-            block,
-            processor,
-            waits,
-            masks,
-        },
-        BlockFault::MaskEmpty { mask } => ImageFault::MaskEmpty { block, mask },
-        BlockFault::MaskBit { mask } => ImageFault::MaskBit { block, mask },
-    }
 }

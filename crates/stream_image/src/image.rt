@@ -1,16 +1,21 @@
 // Images: programs for a barrier machine that keep the stream invariant.
-ghost use Rattle.std.specs.Prelude.{◌≡◌, ◌<◌, ◌≤◌, ℕ, length};
+ghost use Rattle.std.specs.Prelude.{◌≡◌, ◌<◌, ◌≤◌, ℕ, IfOk, length};
 ghost use Rattle.bm_base.specs.Machine.{IsTime};
 ghost use Rattle.bm_base.specs.Spec.{time_of};
 ghost use Rattle.line_model.specs.Streams as lines;
 ghost use Rattle.unit_law.specs.State.{code_at};
 ghost use Rattle.unit_law.specs.Determinate.{IsDeterminate};
 ghost use Rattle.stream_image.specs.Held.{most_masks_of};
-ghost use Rattle.stream_image.specs.Image.{IsImage, IsLawful};
+ghost use Rattle.stream_image.specs.Image.{AreLines, IsImage, IsLawful};
+ghost use Rattle.stream_image.specs.Line.{AreOf};
+ghost use Rattle.time_interval.specs.Lines.{IsLine};
 
+use crate::given::Stream;
+use crate::line::line_of;
 use crate::shelf::Shelf;
-use bm_base::{Class, Mask, Names, Spec};
-use line_model::StreamItem;
+use bm_base::{Class, Mask, Names, Sequence, Spec};
+use line_model::{Line, StreamItem};
+use std::alloc::{AllocError, Global};
 use std::marker::Model;
 use tuple_ir::{Next, Tuple};
 
@@ -55,6 +60,7 @@ impl Image {
         ensures value { result ≡ length self.now.blocks }
         ensures lawful { IsImage self.now }
         ensures determinate { IsDeterminate self.now }
+        ensures lines { AreLines self.now }
     {
         // Only for their contracts.
         machine_is_lawful(&self.spec);
@@ -86,6 +92,34 @@ impl Image {
         ensures { result.now ≡ lines.masks (code_at self.now b).line }
     {
         self.held.masks(b as usize)
+    }
+
+    /// The streams of the processors in a block.
+    fn streams(&self, alloc: Global, b: u32) -> Result<Vec<Stream>, AllocError>
+        requires { b < length self.now.blocks }
+        ensures { IfOk result (λ given. AreOf self.now.machine.processors (λ p. lines.stream p (code_at self.now b).line) given.items) }
+    {
+        let mut streams = Vec::new(alloc);
+        for p in 0..self.spec().processors() {
+            let items = Sequence::from_vec(Vec::from_slice(alloc, self.stream(b, p))?);
+            streams.push(Stream {
+                processor: p,
+                items,
+            })?;
+        }
+        Ok(streams)
+    }
+
+    /// The line of a block: the one of its streams and masks. Bounds can be made of it.
+    pub fn line(&self, alloc: Global, b: u32) -> Result<Line, AllocError>
+        requires { b < length self.now.blocks }
+        ensures line { IfOk result (λ line. line.items ≡ (code_at self.now b).line) }
+        ensures bounded { IfOk result (λ line. IsLine (length (code_at self.now b).tuples) self.now.machine.processors line.items) }
+    {
+        // Only for its contract.
+        let _blocks = self.blocks();
+        let streams = self.streams(alloc, b)?;
+        line_of(alloc, self.spec().processors(), &streams, self.masks(b))
     }
 
     /// What is run after a block.

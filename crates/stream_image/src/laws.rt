@@ -11,7 +11,7 @@ pub fn test_is_what_a_block_keeps()
 {}
 
 /// The fault that `first_fault` tells stands, and none that comes before it in the order of
-/// `BlockFault` or in its place.
+/// `ImageFault` or in its place.
 pub fn told_fault_is_the_first()
     ensures { IsTold }
 {}

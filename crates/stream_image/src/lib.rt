@@ -19,7 +19,7 @@ mod sorted;
 mod stream_list;
 
 pub use builder::ImageBuilder;
-pub use fault::{BlockFault, ImageFault};
+pub use fault::ImageFault;
 pub use given::{Stream, StreamItems};
 pub use image::Image;
 pub use laws::{

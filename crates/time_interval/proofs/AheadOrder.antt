@@ -29,7 +29,8 @@ use Rattle.time_interval.proofs.Extend.{reference_more}
 use Rattle.time_interval.proofs.KnowsFacts.{since_none}
 use Rattle.time_interval.proofs.NextFacts.{front_kept, front_new, stands_next, tuples-append}
 use Rattle.time_interval.proofs.Once.{Split, split_at, stands_behind, stand_once, any_of_contains}
-use Rattle.time_interval.proofs.SeenFacts.{StandsBehind, by_processor_is, by_barrier_is}
+use Rattle.time_interval.specs.Seen.{StandsBehind}
+use Rattle.time_interval.proofs.SeenFacts.{by_processor_is, by_barrier_is}
 
 -- ---- a tuple behind its front
 

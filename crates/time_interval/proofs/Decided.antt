@@ -10,11 +10,10 @@ use Rattle.time_interval.specs.declared.reference.Point.TheVariants.{StartOf, Fi
 use Rattle.time_interval.specs.Bounds.{Pace, lo_of, up_of, front_of_run, processor_of}
 use Rattle.time_interval.specs.Lines.{IsItem, tuples}
 use Rattle.time_interval.specs.Ordered.{IsOrdered, IsInTime, IsOrderedByTime, IsReference}
-use Rattle.time_interval.specs.Seen.{stands_on, seen_along}
+use Rattle.time_interval.specs.Seen.{StandsBehind, stands_on, seen_along}
 use Rattle.time_interval.proofs.Fronts.{front_of_run_all}
 use Rattle.time_interval.proofs.Once.{stands_behind}
 use Rattle.time_interval.proofs.OrderFacts.{on_processor, not_on_processor, by_barriers, not_by_barriers, no_reason}
-use Rattle.time_interval.proofs.SeenFacts.{StandsBehind}
 
 in_time_or_not : (pace : Pace) (line : List Item) (g i : ℕ) (r : Reference) → IsInTime pace line g i r ⊎ (¬ IsInTime pace line g i r)
 in_time_or_not pace line g i r = go (up_of pace line r (FinishOf g)) refl (lo_of pace line r (StartOf i)) refl

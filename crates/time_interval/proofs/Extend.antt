@@ -13,9 +13,9 @@ use Rattle.time_interval.specs.Bounds.{Pace, Known, known, along, since_bar, at_
 use Rattle.time_interval.specs.Lines.{tuples}
 use Rattle.time_interval.specs.Ordered.{IsOrdered, IsReference}
 use Rattle.time_interval.specs.Next.{IsSomeInTimeNext}
-use Rattle.time_interval.specs.Seen.{StandsOn, IsSeen}
+use Rattle.time_interval.specs.Seen.{StandsBehind, StandsOn, IsSeen}
 use Rattle.time_interval.proofs.Parts.{stands_more, member_more, member_within, before_more, chain_more}
-use Rattle.time_interval.proofs.SeenFacts.{by_processor_is, by_barrier_is, seen_more, bar_gives, StandsBehind}
+use Rattle.time_interval.proofs.SeenFacts.{by_processor_is, by_barrier_is, seen_more, bar_gives}
 use Rattle.time_interval.proofs.NextFacts.{front_kept, some_next, stands_next, tuples-append}
 
 more_masks : (part more : List Item) → length (masks part) ≤ length (masks (part ++ more))

@@ -15,7 +15,7 @@ use Rattle.time_interval.specs.Lines.{Timed, IsTimed, IsItem, tuples}
 use Rattle.time_interval.specs.Ordered.{IsReference, IsOrderedByTime}
 use Rattle.time_interval.specs.Next.{IsSomeInTimeNext}
 use Rattle.time_interval.proofs.Once.{stand_once}
-use Rattle.time_interval.proofs.SeenFacts.{StandsBehind}
+use Rattle.time_interval.specs.Seen.{StandsBehind}
 use Rattle.time_interval.proofs.Fronts.{item_of_more}
 use Rattle.std.proofs.lemmas.List.Elements.{All-weaker, All-push}
 

@@ -14,9 +14,9 @@ use Rattle.time_interval.specs.Bounds.{Pace, front_of_run, processor_of}
 use Rattle.time_interval.specs.Lines.{Timed, IsTimed, IsItem, tuples}
 use Rattle.time_interval.specs.Ordered.{IsReason, IsOrdered, IsInTime, IsReference}
 use Rattle.time_interval.specs.Ordered.IsReason.{processor, barrier, time}
-use Rattle.time_interval.specs.Seen.{StandsOn, IsSeen, stands_on, seen_along}
+use Rattle.time_interval.specs.Seen.{StandsBehind, StandsOn, IsSeen, stands_on, seen_along}
 use Rattle.time_interval.proofs.Once.{own_some, stands_behind, any_of_contains}
-use Rattle.time_interval.proofs.SeenFacts.{StandsBehind, by_processor_is, by_barrier_is, seen_tells}
+use Rattle.time_interval.proofs.SeenFacts.{by_processor_is, by_barrier_is, seen_tells}
 
 pub stands_on_tells : (items : List Item) (p t : ℕ) → Decides (stands_on items p t) (StandsOn items p t)
 stands_on_tells [] p t = (λ e. absurd (true≢false (sym e)), λ s. absurd (let e : slice_get [] s.0 ≡ Some (Do t) = s.1.item in cc))

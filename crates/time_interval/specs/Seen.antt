@@ -1,9 +1,9 @@
 -- Of private functions: what of a line's front is ordered before the next item of a processor, by processor or by barrier.
-use Rattle.std.specs.Prelude.{ℕ, zero, suc, Bool, false, ◌&&◌, ◌||◌, nat_eq, List, [], ◌∷◌, if◌then◌else◌, ◌<◌, ◌⊎◌}
+use Rattle.std.specs.Prelude.{◌≡◌, ℕ, zero, suc, Bool, false, ◌&&◌, ◌||◌, nat_eq, List, [], ◌∷◌, ◌++◌, length, if◌then◌else◌, ◌<◌, ◌⊎◌}
 use Rattle.bm_base.specs.Mask.{has_bit}
 use Rattle.line_model.specs.declared.line.Item.{Item}
 use Rattle.line_model.specs.declared.line.Item.TheVariants.{Run, Bar}
-use Rattle.line_model.specs.Streams.{before}
+use Rattle.line_model.specs.Streams.{stream, before}
 use Rattle.line_model.specs.Order.{StandsAt, HasMember, Chain}
 
 -- tuple g stands in front, on processor p
@@ -24,6 +24,12 @@ pub record IsChained (front : List Item) (p g : ℕ) : Type 0 where
 
 abbrev pub IsSeen : List Item → ℕ → ℕ → Type 0
 IsSeen front p g = StandsOn front p g ⊎ IsChained front p g
+
+-- tuple i stands behind the front, on processor p, and nowhere else
+pub record StandsBehind (line front : List Item) (p i : ℕ) : Type 0 where
+  pub back : List Item
+  pub split : line ≡ front ++ Run p i ∷ back
+  pub once : (q k : ℕ) → StandsAt line i q k → (q ≡ p) × (k ≡ length (stream p front))
 
 -- the same by recursion along the items: of processor p and tuple g
 abbrev pub seen_of_members : ℕ → ℕ → (ℕ → ℕ → Bool) → ℕ → Bool

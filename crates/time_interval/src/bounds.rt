@@ -191,9 +191,11 @@ impl Bounds {
         ordered
     }
 
-    /// Keeps the change that stands, or takes it back. It takes no memory.
+    /// Keeps the change that stands, or takes it back; nothing changes where none stands. It takes no
+    /// memory.
     pub fn settle(&mut self, keep: bool)
-        ensures { (before : List Item) → self.old.before ≡ Some before → self.new
+        ensures none { self.old.before ≡ None → self.new ≡ self.old }
+        ensures change { (before : List Item) → self.old.before ≡ Some before → self.new
             ≡ record { pace = self.old.pace; line = (if keep then self.old.line else before); before = None } }
     {
         if keep && self.stands {

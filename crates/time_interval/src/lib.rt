@@ -30,4 +30,5 @@ pub use edit::Edit;
 pub use examples::{bounds_examples, queue_examples};
 pub use laws::laws_of_lines;
 pub use reference::{Point, Reason, Reference};
+pub use timed::copy_of;
 pub use timeline::Timeline;

@@ -48,8 +48,8 @@ impl Model for TimedLine {
     ghost invariant = { λ b. IsTimed (record { pace = b.timing; line = b.line.items }) };
 }
 
-/// The line again.
-fn copy_of(alloc: Global, line: &Line) -> Result<Line, AllocError>
+/// The line again. It fails only where memory runs out.
+pub fn copy_of(alloc: Global, line: &Line) -> Result<Line, AllocError>
     ensures { IfOk result (λ copy. copy.items ≡ line.now.items) }
 {
     let mut items = Items::new(alloc);

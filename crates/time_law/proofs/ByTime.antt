@@ -16,18 +16,19 @@ use Rattle.unit_law.specs.Determinate.{RespectsConflicts, IsDeterminate}
 use Rattle.unit_law.specs.Sound.{IsSound}
 use Rattle.unit_law.proofs.SoundFits.{sound_fit, sound_stand, sound_early, sound_lead, sound_none_empty}
 use Rattle.unit_law.proofs.Ordering.{determinate_by_order}
-use Rattle.unit_law.proofs.Inside.{completed, completed_at, free_completed}
+use Rattle.unit_law.specs.Inside.{completed, completed_at}
+use Rattle.unit_law.proofs.Inside.{free_completed}
 use Rattle.unit_law.proofs.Ordered.{ordered_done}
 use Rattle.bm_base.specs.Spec.{interval}
 use Rattle.tuple_ir.specs.Conflict.{Conflict, clash}
 use Rattle.time_interval.specs.declared.reference.Reference.{Reference}
 use Rattle.time_interval.specs.declared.reference.Point.{Point}
 use Rattle.time_interval.specs.declared.reference.Point.TheVariants.{StartOf, FinishOf}
-use Rattle.time_interval.specs.Bounds.{times_of, lo_of, up_of}
+use Rattle.time_interval.specs.Bounds.{times_of, known, lo_of, up_of}
 use Rattle.time_interval.specs.Lines.{tuples, HasPoint}
 use Rattle.time_interval.specs.Ordered.{IsInTime, IsOrdered}
 use Rattle.time_interval.proofs.Once.{stands_among}
-use Rattle.time_law.proofs.Lookups.{Says, tick_of, come_of, since_says}
+use Rattle.time_law.proofs.Lookups.{Says, tick_of, come_of, since_says, whole_up, whole_lo}
 use Rattle.time_law.specs.Conflicts.{pace_of, ConflictsOrdered}
 use Rattle.time_law.proofs.Timed.{most_of, Clocked}
 use Rattle.time_law.proofs.TimedLaws.{came_at, has_come, fire_at, is_fired, laws, late_tick, held_on}
@@ -54,6 +55,13 @@ module _ {m : Program} {b : ℕ} {done : ℕ → Type 0} {s : State} {entry : �
 
   pub says : (r : Reference) (x : Point) → HasPoint (code_at m b).line x → Says (pace_of m (code_at m b)) (code_at m b).line (came_at clocked) (has_come clocked) (fire_at clocked) (is_fired clocked) (come_of (is_fired clocked) r) (tick_of (fire_at clocked) entry r) x (lo_of (pace_of m (code_at m b)) (code_at m b).line r x) (up_of (pace_of m (code_at m b)) (code_at m b).line r x)
   says r x h = since_says (pace_of m (code_at m b)) (code_at m b).line (came_at clocked) (has_come clocked) (fire_at clocked) (is_fired clocked) (laws clocked) clocked.fit.members entry begins r x h
+
+  -- behind the whole line
+  pub line_up : (r : Reference) (p u : ℕ) → (known (pace_of m (code_at m b)) r (code_at m b).line).up p ≡ Some u → came_at clocked p (length (stream p (code_at m b).line)) ≤ tick_of (fire_at clocked) entry r + u
+  line_up r p u e = whole_up (pace_of m (code_at m b)) (code_at m b).line (came_at clocked) (has_come clocked) (fire_at clocked) (is_fired clocked) (laws clocked) clocked.fit.members entry begins r p u e
+
+  pub line_lo : (r : Reference) (p l : ℕ) → (known (pace_of m (code_at m b)) r (code_at m b).line).lo p ≡ Some l → has_come clocked p (length (stream p (code_at m b).line)) → tick_of (fire_at clocked) entry r + l ≤ came_at clocked p (length (stream p (code_at m b).line))
+  line_lo r p l e h = whole_lo (pace_of m (code_at m b)) (code_at m b).line (came_at clocked) (has_come clocked) (fire_at clocked) (is_fired clocked) (laws clocked) clocked.fit.members entry begins r p l e h
 
   module _ (times : HasTimes m) (none : NoneDue s) where
     most_pos : (t : ℕ) → t < length (code_at m b).tuples → 0 < most_of m (code_at m b) t

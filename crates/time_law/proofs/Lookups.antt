@@ -178,3 +178,12 @@ module _ (pace : Pace) (line : List Item) (came : ℕ → ℕ → ℕ) (has : �
     since_says r (FinishOf t) h = finish_says (come_of fired r) (tick_of fire entry r) r (known_holds r) t h
     since_says since.Start (FireOf j) h = let s = split_bar line j h in fire_says (Unit {0}) entry j (known pace since.Start (front_of_bar j line)) h (known_holds since.Start (front_of_bar j line) (Bar (mask_at line j) ∷ s.back) s.same)
     since_says (since.Bar k) (FireOf j) h = let s = split_bar line j h in own_says k j _ _ (fire_says (fired k) (fire k) j (known pace (since.Bar k) (front_of_bar j line)) h (known_holds (since.Bar k) (front_of_bar j line) (Bar (mask_at line j) ∷ s.back) s.same)) (nat_eq k j) refl
+
+    -- behind the whole line
+    pub whole_up : (r : Reference) (p u : ℕ) → (known pace r line).up p ≡ Some u → came p (length (stream p line)) ≤ tick_of fire entry r + u
+    unfolding HoldAt
+    whole_up r p u e = (known_holds r line [] (sym (append-nil line))).up_holds p u e
+
+    pub whole_lo : (r : Reference) (p l : ℕ) → (known pace r line).lo p ≡ Some l → has p (length (stream p line)) → tick_of fire entry r + l ≤ came p (length (stream p line))
+    unfolding HoldAt
+    whole_lo r p l e h = ((known_holds r line [] (sym (append-nil line))).lo_holds p l e h).1

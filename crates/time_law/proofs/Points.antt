@@ -4,13 +4,15 @@ use Rattle.std.proofs.lemmas.Bool.{cases_eq, cases_lt, both_ways, cond-true, con
 use Rattle.std.proofs.lemmas.Option.{slice_get_within}
 use Rattle.bm_base.specs.Mask.{has_bit}
 use Rattle.line_model.specs.declared.line.StreamItem.TheVariants.{Do, Wait}
-use Rattle.line_model.specs.Streams.{stream, masks}
+use Rattle.line_model.specs.Streams.{stream, masks, before}
 use Rattle.line_model.specs.Order.{HasMember, StandsAt}
 use Rattle.tuple_ir.specs.World.{World}
 use Rattle.unit_law.specs.State.{Code, Program, Idle, Busy, Held, Processor, State, code_at, entered, processor, waits}
 use Rattle.unit_law.specs.Units.{IsReady}
 use Rattle.unit_law.specs.Steps.{IsNext, IsDuration, tuple_at, freed, begun, passed, with_processor}
-use Rattle.unit_law.proofs.Inside.{completed, completed_at, free_completed, set_all, waits_parts, fired_all, bound, wait_at}
+use Rattle.unit_law.proofs.Agree.{at_wait}
+use Rattle.unit_law.specs.Inside.{completed, completed_at}
+use Rattle.unit_law.proofs.Inside.{free_completed, set_all, waits_parts, fired_all, is_ready, bound, wait_at}
 use Rattle.unit_law.proofs.Fronts.{none_fired}
 use Rattle.unit_law.proofs.Ordered.{entered_at}
 use Rattle.time_interval.specs.declared.reference.Point.{Point}
@@ -25,7 +27,7 @@ pub record Tells (m : Program) (code : Code) (s : State) (came : ℕ → List �
   pub lasts : (q until t : ℕ) (operands : List ℤ) → (processor s q).work ≡ Busy until t operands → until ≡ get_or (came q) (completed (processor s q)) 0 + took t
   pub ran : (q t k : ℕ) → StandsAt code.line t q k → k < completed (processor s q) → get_or (came q) (suc k) 0 ≡ get_or (came q) k 0 + took t
   pub times : (q t k : ℕ) → StandsAt code.line t q k → k < (processor s q).place → IsDuration m (tuple_at code t) (took t)
-  pub holds : (q until : ℕ) → (processor s q).work ≡ Held until → (j : ℕ) × HasMember code.line j q × (get_or s.fired j false ≡ true) × (until ≡ fire j + m.machine.delay)
+  pub holds : (q until : ℕ) → (processor s q).work ≡ Held until → (j : ℕ) × HasMember code.line j q × ((processor s q).place ≡ suc (before q j code.line)) × (get_or s.fired j false ≡ true) × (until ≡ fire j + m.machine.delay)
 
 if_same : (k n : ℕ) (a b : ℕ) → (k < n → a ≡ b) → (if nat_lt k n then Some a else None) ≡ (if nat_lt k n then Some b else None)
 if_same k n a b h = go (cases_lt k n)
@@ -52,7 +54,7 @@ module _ {m : Program} {b : ℕ} {done : ℕ → Type 0} {s : State} {entry : �
       lasts = set_all (λ q x. (until t : ℕ) (operands : List ℤ) → x.work ≡ Busy until t operands → until ≡ get_or (came q) (completed x) 0 + took' t) s.processors p new lt (λ until t operands' e. lasts until t (let x : s.clock + d ≡ until = cc in x) (let x : u ≡ t = cc in x)) (λ q ne until t operands' e. let (k, ep, item) = clocked.inside.work q until t operands' e in let x = tells.lasts q until t operands' e in let y = took_same t (elsewhere q ne t k (record { item = item })) in omega arith);
       ran = set_all (λ q x. (t k : ℕ) → StandsAt (code_at m b).line t q k → k < completed x → get_or (came q) (suc k) 0 ≡ get_or (came q) k 0 + took' t) s.processors p new lt (λ t k at l. let x = tells.ran p t k at (let z : k < (processor s p).place = l in omega (arith, done_is)) in let y = took_same t (other p t k at (inr (λ e. let z : k < (processor s p).place = l in omega arith))) in omega arith) (λ q ne t k at l. let x = tells.ran q t k at l in let y = took_same t (elsewhere q ne t k at) in omega arith);
       times = set_all (λ q x. (t k : ℕ) → StandsAt (code_at m b).line t q k → k < x.place → IsDuration m (tuple_at (code_at m b) t) (took' t)) s.processors p new lt (λ t k at l. times t k at l (cases_eq k (processor s p).place)) (λ q ne t k at l. subst (IsDuration m (tuple_at (code_at m b) t)) (sym (took_same t (elsewhere q ne t k at))) (tells.times q t k at l));
-      holds = set_all (λ q x. (until : ℕ) → x.work ≡ Held until → (j : ℕ) × HasMember (code_at m b).line j q × (get_or s.fired j false ≡ true) × (until ≡ fire j + m.machine.delay)) s.processors p new lt (λ until e. absurd (cc)) (λ q ne. tells.holds q);
+      holds = set_all (λ q x. (until : ℕ) → x.work ≡ Held until → (j : ℕ) × HasMember (code_at m b).line j q × (x.place ≡ suc (before q j (code_at m b).line)) × (get_or s.fired j false ≡ true) × (until ≡ fire j + m.machine.delay)) s.processors p new lt (λ until e. absurd (cc)) (λ q ne. tells.holds q);
     }
       where
         new : Processor
@@ -105,7 +107,7 @@ module _ {m : Program} {b : ℕ} {done : ℕ → Type 0} {s : State} {entry : �
           lasts = set_all (λ q x. (until t : ℕ) (operands : List ℤ) → x.work ≡ Busy until t operands → until ≡ get_or (came' q) (completed x) 0 + took t) s.processors p (freed (processor s p)) within (λ until t operands' e. absurd (cc)) (λ q ne until t operands' e. let x = tells.lasts q until t operands' e in let y = ap (λ cs. get_or cs (completed (processor s q)) 0) (there q ne) in omega arith);
           ran = set_all (λ q x. (t k : ℕ) → StandsAt (code_at m b).line t q k → k < completed x → get_or (came' q) (suc k) 0 ≡ get_or (came' q) k 0 + took t) s.processors p (freed (processor s p)) within (λ t k at l. ran t k at l (cases_eq k k0)) (λ q ne t k at l. let x = tells.ran q t k at l in let y = ap (λ cs. get_or cs (suc k) 0) (there q ne) in let z = ap (λ cs. get_or cs k 0) (there q ne) in omega arith);
           times = set_all (λ q x. (t k : ℕ) → StandsAt (code_at m b).line t q k → k < x.place → IsDuration m (tuple_at (code_at m b) t) (took t)) s.processors p (freed (processor s p)) within (λ t k at l. tells.times p t k at l) (λ q ne t k at l. tells.times q t k at l);
-          holds = set_all (λ q x. (until : ℕ) → x.work ≡ Held until → (j : ℕ) × HasMember (code_at m b).line j q × (get_or s.fired j false ≡ true) × (until ≡ fire j + m.machine.delay)) s.processors p (freed (processor s p)) within (λ until e. absurd (cc)) (λ q ne. tells.holds q);
+          holds = set_all (λ q x. (until : ℕ) → x.work ≡ Held until → (j : ℕ) × HasMember (code_at m b).line j q × (x.place ≡ suc (before q j (code_at m b).line)) × (get_or s.fired j false ≡ true) × (until ≡ fire j + m.machine.delay)) s.processors p (freed (processor s p)) within (λ until e. absurd (cc)) (λ q ne. tells.holds q);
         }
           where
             stands : StandsAt (code_at m b).line u p k0
@@ -166,8 +168,8 @@ module _ {m : Program} {b : ℕ} {done : ℕ → Type 0} {s : State} {entry : �
       times = fired_all (λ q x. (t k : ℕ) → StandsAt (code_at m b).line t q k → k < x.place → IsDuration m (tuple_at (code_at m b) t) (took t)) (s.clock + m.machine.delay) r.mask s.processors inside
           (λ q g t k at l. tells.times q t k at (below q g t k at l))
           (λ q g t k at l. tells.times q t k at l);
-      holds = fired_all (λ q x. (until : ℕ) → x.work ≡ Held until → (k : ℕ) × HasMember (code_at m b).line k q × (get_or (set s.fired j true) k false ≡ true) × (until ≡ fire' k + m.machine.delay)) (s.clock + m.machine.delay) r.mask s.processors inside
-          (λ q g until e. (j, record { mask = r.mask; at = r.at; has = g }, get_or-set_same s.fired j true false in_queue, (let x : s.clock + m.machine.delay ≡ until = cc in sym x ∙ ap (λ c. c + m.machine.delay) (sym now))))
+      holds = fired_all (λ q x. (until : ℕ) → x.work ≡ Held until → (k : ℕ) × HasMember (code_at m b).line k q × (x.place ≡ suc (before q k (code_at m b).line)) × (get_or (set s.fired j true) k false ≡ true) × (until ≡ fire' k + m.machine.delay)) (s.clock + m.machine.delay) r.mask s.processors inside
+          (λ q g until e. (j, record { mask = r.mask; at = r.at; has = g }, ap suc (sym (place_is q g)), get_or-set_same s.fired j true false in_queue, (let x : s.clock + m.machine.delay ≡ until = cc in sym x ∙ ap (λ c. c + m.machine.delay) (sym now))))
           (λ q g until e. stays q until (tells.holds q until e));
     }
       where
@@ -176,6 +178,9 @@ module _ {m : Program} {b : ℕ} {done : ℕ → Type 0} {s : State} {entry : �
 
         in_queue : j < length s.fired
         in_queue = let x = slice_get_within (masks (code_at m b).line) j r.mask r.at in omega (arith, clocked.inside.masks_are)
+
+        place_is : (q : ℕ) → has_bit r.mask q ≡ true → before q j (code_at m b).line ≡ (processor s q).place
+        place_is q g = at_wait (code_at m b).line _ _ clocked.inside.agrees j r.mask (is_ready m b clocked.fit done s clocked.inside j r) q g
 
         done_is : (q : ℕ) → has_bit r.mask q ≡ true → completed (processor s q) ≡ (processor s q).place
         done_is q g = free_completed s.clock (processor s q).work (processor s q).place (waits_parts (code_at m b) s q (r.all_wait q g)).0
@@ -203,8 +208,8 @@ module _ {m : Program} {b : ℕ} {done : ℕ → Type 0} {s : State} {entry : �
         fired_at k (inl e) = ap (λ n. h' (FireOf n)) e ∙ h_now ∙ sym (cond-true _ _ _ (ap (λ n. get_or (set s.fired j true) n false) e ∙ get_or-set_same s.fired j true false in_queue) ∙ ap Some (ap fire' e ∙ now))
         fired_at k (inr ne) = h_same k (λ e. ne (sym e)) ∙ tells.fires k ∙ ap (λ v. if v then Some (fire k) else None) (sym (get_or-set_other s.fired j k true false ne)) ∙ ap (λ x. if get_or (set s.fired j true) k false then Some x else None) (sym (same k ne))
 
-        stays : (q until : ℕ) → (k : ℕ) × HasMember (code_at m b).line k q × (get_or s.fired k false ≡ true) × (until ≡ fire k + m.machine.delay) → (k : ℕ) × HasMember (code_at m b).line k q × (get_or (set s.fired j true) k false ≡ true) × (until ≡ fire' k + m.machine.delay)
-        stays q until (k, mem, f, e) = (k, mem, get_or-set_other s.fired j k true false ne ∙ f, e ∙ ap (λ x. x + m.machine.delay) (sym (same k ne)))
+        stays : (q until : ℕ) → (k : ℕ) × HasMember (code_at m b).line k q × ((processor s q).place ≡ suc (before q k (code_at m b).line)) × (get_or s.fired k false ≡ true) × (until ≡ fire k + m.machine.delay) → (k : ℕ) × HasMember (code_at m b).line k q × ((processor s q).place ≡ suc (before q k (code_at m b).line)) × (get_or (set s.fired j true) k false ≡ true) × (until ≡ fire' k + m.machine.delay)
+        stays q until (k, mem, at, f, e) = (k, mem, at, get_or-set_other s.fired j k true false ne ∙ f, e ∙ ap (λ x. x + m.machine.delay) (sym (same k ne)))
           where
             ne : k ≡ j → ⊥
             ne w = both_ways _ r.unfired (ap (λ n. get_or s.fired n false) (sym w) ∙ f)

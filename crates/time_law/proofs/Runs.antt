@@ -14,7 +14,8 @@ use Rattle.tuple_ir.specs.World.{World, cell}
 use Rattle.unit_law.specs.State.{Code, Program, Mode, In, Entering, Ended, Busy, State, code_at, processor, is_due, next_item}
 use Rattle.unit_law.specs.Steps.{Action, Finish, Fire, Start, Branch, Advance, Enter, may_to, IsNext, IsDuration, tuple_at, passed, started, finished, target, or_clock, after_in, after_to, state_after, IsRun}
 use Rattle.unit_law.specs.Fit.{AllFit, NoneEmpty}
-use Rattle.unit_law.proofs.Inside.{Inside, due_within, work_due, mask_is}
+use Rattle.unit_law.specs.Inside.{Inside}
+use Rattle.unit_law.proofs.Inside.{due_within, work_due, mask_is}
 use Rattle.unit_law.proofs.Ordered.{Holds, run_holds, keeps, entered_inside, started_mode}
 use Rattle.time_interval.specs.declared.reference.Point.{Point}
 use Rattle.time_interval.specs.declared.reference.Point.TheVariants.{StartOf, FinishOf, FireOf}

@@ -1,11 +1,12 @@
 -- The bounds hold at each state within a block of every run.
 use Rattle.std.proofs.Common.{◌≡◌, ℕ, suc, pred, ◌+◌, ◌<◌, ◌≤◌, Bool, true, false, List, length, get_or, Option, Some, None, slice_get, refl, sym, ap, ◌∙◌, arith, ◌⊎◌, inl, inr, if◌then◌else◌}
 use Rattle.std.proofs.lemmas.Bool.{cases_Bool, cases_lt, ltb-true, ltb-false}
+use Rattle.std.proofs.lemmas.Option.{slice_get_within, slice_get-get_or, get_or_from_slice_get}
 use Rattle.line_model.specs.Streams.{stream}
 use Rattle.line_model.specs.Order.{StandsAt}
 use Rattle.unit_law.specs.State.{Program, Work, Idle, Busy, Held, State, code_at, processor, is_free}
 use Rattle.unit_law.specs.Fit.{AllFit, NoneEmpty}
-use Rattle.unit_law.proofs.Inside.{completed, completed_at}
+use Rattle.unit_law.specs.Inside.{completed, completed_at}
 use Rattle.time_interval.specs.declared.reference.Reference.{Reference}
 use Rattle.time_interval.specs.declared.reference.Reference.TheVariants as since
 use Rattle.time_interval.specs.declared.reference.Point.{Point}
@@ -14,11 +15,11 @@ use Rattle.time_interval.specs.Bounds.{lo_of, up_of}
 use Rattle.time_interval.specs.Lines.{HasPoint}
 use Rattle.time_law.specs.Conflicts.{pace_of}
 use Rattle.time_law.specs.Happened.{reference_at}
-use Rattle.time_law.specs.Bounded.{BoundsHold, KeepsBounds}
+use Rattle.time_law.specs.Bounded.{BoundsHold, KeepsBounds, EndsHold, KeepsEnds}
 use Rattle.time_law.proofs.Lookups.{tick_of, come_of}
 use Rattle.time_law.proofs.Timed.{most_of, Clocked}
 use Rattle.time_law.proofs.TimedLaws.{came_at, has_come, fire_at, is_fired, laws, fired_tick, unfired_tick, come_tick, late_tick, completed_le, held_on}
-use Rattle.time_law.proofs.ByTime.{says}
+use Rattle.time_law.proofs.ByTime.{says, line_up, line_lo}
 use Rattle.time_law.proofs.Points.{Tells}
 use Rattle.time_law.proofs.Runs.{run_clocked, run_tells}
 
@@ -29,6 +30,13 @@ known_if false a t e = absurd (cc)
 none_if : (v : Bool) (a : ℕ) → (if v then Some a else None) ≡ None → v ≡ false
 none_if true a e = absurd (cc)
 none_if false a e = refl
+
+absent : (cs : List ℕ) (k : ℕ) → slice_get cs k ≡ None → length cs ≤ k
+absent cs k e = go (cases_lt k (length cs))
+  where
+    go : (k < length cs) ⊎ (length cs ≤ k) → length cs ≤ k
+    go (inl lt) = let x : Some (get_or cs k 0) ≡ None = sym (slice_get-get_or cs k 0 lt) ∙ e in absurd (cc)
+    go (inr le) = le
 
 pub place_le : (w : Work) (place : ℕ) → place ≤ suc (completed_at w place)
 place_le Idle place = omega arith
@@ -154,9 +162,28 @@ module _ {m : Program} {b : ℕ} {done : ℕ → Type 0} {s : State} {entry : �
       let x = (says clocked r (FireOf j) hp).0 u k in
       let y = unfired_tick clocked j v in let a = ref_is r f e in omega arith
 
+  -- behind the whole line
+  came_is : (p t : ℕ) → slice_get (came p) (length (stream p (code_at m b).line)) ≡ Some t → (length (stream p (code_at m b).line) < length (came p)) × (came_at clocked p (length (stream p (code_at m b).line)) ≡ t)
+  came_is p t e =
+      let lt = slice_get_within (came p) (length (stream p (code_at m b).line)) t e in
+      (lt, come_tick clocked p (length (stream p (code_at m b).line)) lt ∙ get_or_from_slice_get (came p) (length (stream p (code_at m b).line)) t 0 e)
+
+  pub ends_hold : EndsHold (pace_of m (code_at m b)) (code_at m b).line s.clock entry (record { came = came; at = h; took = took })
+  unfolding ref_tick
+  ends_hold = record {
+    low = λ r p f t l e g k. let (lt, x) = came_is p t g in let y = line_lo clocked r p l k (has_of p (length (stream p (code_at m b).line)) lt) in let z = ref_is r f e in omega arith;
+    high = λ r p f t u e g k. let (lt, x) = came_is p t g in let y = line_up clocked r p u k in let z = ref_is r f e in omega arith;
+    not_yet = λ r p f u e g k.
+        let x = late_tick clocked p (length (stream p (code_at m b).line)) (absent (came p) (length (stream p (code_at m b).line)) g) in
+        let y = line_up clocked r p u k in let z = ref_is r f e in omega arith;
+  }
+
   pub bounds_hold : BoundsHold (pace_of m (code_at m b)) (code_at m b).line s.clock entry h
   bounds_hold = record { low = low; high = high; not_yet = not_yet }
 
 -- ---- every run
+pub ends_are_sound : (m : Program) → AllFit m → NoneEmpty m → KeepsEnds m
+ends_are_sound m fit full memory past b run mode = ends_hold (run_clocked m fit full memory past b run mode) (run_tells m fit full memory past b run mode)
+
 pub are_sound : (m : Program) → AllFit m → NoneEmpty m → KeepsBounds m
 are_sound m fit full memory past b run mode = bounds_hold (run_clocked m fit full memory past b run mode) (run_tells m fit full memory past b run mode)

@@ -10,7 +10,8 @@ use Rattle.unit_law.specs.Units.{is_behind}
 use Rattle.unit_law.specs.Steps.{IsMaskUrgent, IsNext, IsDuration, tuple_at}
 use Rattle.unit_law.specs.Fit.{AllFit, NoneEmpty}
 use Rattle.unit_law.proofs.Agree.{at_wait}
-use Rattle.unit_law.proofs.Inside.{completed, completed_at, free_completed, waits_parts, is_ready}
+use Rattle.unit_law.specs.Inside.{completed, completed_at}
+use Rattle.unit_law.proofs.Inside.{free_completed, waits_parts, is_ready}
 use Rattle.time_interval.specs.declared.reference.Point.{Point}
 use Rattle.time_interval.specs.declared.reference.Point.TheVariants.{StartOf, FinishOf, FireOf}
 use Rattle.time_interval.specs.Bounds.{later}
@@ -126,8 +127,8 @@ module _ {m : Program} {b : ℕ} {done : ℕ → Type 0} {s : State} {entry : �
       let lt : k < (processor s p).place = omega arith in
       (clocked.inside.ticks p until t operands e, (get_or (came p) k 0, tells.starts p t k (record { item = item }) ∙ cond-true _ _ _ (lt-ltb k (processor s p).place lt), omega arith, tells.times p t k (record { item = item }) lt))
 
-  held : (p until : ℕ) → (processor s p).work ≡ Held until → (j at : ℕ) × HasMember (code_at m b).line j p × (h (FireOf j) ≡ Some at) × (until ≡ at + m.machine.delay)
-  held p until e = let (j, mem, f, u) = tells.holds p until e in (j, fire j, mem, tells.fires j ∙ cond-true _ _ _ f, u)
+  held : (p until : ℕ) → (processor s p).work ≡ Held until → (j at : ℕ) × HasMember (code_at m b).line j p × ((processor s p).place ≡ suc (before p j (code_at m b).line)) × (h (FireOf j) ≡ Some at) × (until ≡ at + m.machine.delay)
+  held p until e = let (j, mem, last, f, u) = tells.holds p until e in (j, fire j, mem, last, tells.fires j ∙ cond-true _ _ _ f, u)
 
   urgent : (j : ℕ) → IsMaskUrgent (code_at m b) s j → ((p : ℕ) × HasMember (code_at m b).line j p × (slice_get (came p) (processor s p).place ≡ Some s.clock)) ⊎ ((k : ℕ) × (j ≡ suc k) × (h (FireOf k) ≡ Some s.clock))
   urgent j u = go (clocked.timed.ready_cause j u.ready)

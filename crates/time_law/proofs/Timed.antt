@@ -11,7 +11,8 @@ use Rattle.unit_law.specs.State.{Code, Program, Work, Idle, Busy, Held, Processo
 use Rattle.unit_law.specs.Fit.{IsFit}
 use Rattle.unit_law.specs.Units.{IsReady}
 use Rattle.unit_law.specs.Steps.{IsDuration, tuple_at, begun, resumed, tick}
-use Rattle.unit_law.proofs.Inside.{Inside, IsWorkAt, completed, free_completed}
+use Rattle.unit_law.specs.Inside.{Inside, IsWorkAt, completed}
+use Rattle.unit_law.proofs.Inside.{free_completed}
 use Rattle.unit_law.proofs.Least.{held_ticks}
 use Rattle.bm_base.specs.Machine.{Machine}
 use Rattle.bm_base.specs.Spec.{time_of, interval}

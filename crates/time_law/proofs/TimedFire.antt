@@ -12,7 +12,8 @@ use Rattle.unit_law.specs.Units.{IsReady}
 use Rattle.unit_law.specs.Steps.{resumed, passed}
 use Rattle.unit_law.specs.Fit.{IsFit}
 use Rattle.unit_law.proofs.Agree.{at_wait}
-use Rattle.unit_law.proofs.Inside.{Inside, completed, free_completed, waits_parts, passed_has, passed_not, fired_all, is_ready, wait_at, bound}
+use Rattle.unit_law.specs.Inside.{Inside, completed}
+use Rattle.unit_law.proofs.Inside.{free_completed, waits_parts, passed_has, passed_not, fired_all, is_ready, wait_at, bound}
 use Rattle.unit_law.proofs.Kept.{length-passed}
 use Rattle.unit_law.proofs.Fronts.{none_fired}
 use Rattle.unit_law.proofs.Ordered.{entered_at}

@@ -10,7 +10,7 @@ use Rattle.line_model.specs.Order.{HasMember}
 use Rattle.unit_law.specs.State.{Program, Work, Idle, Busy, Held, State, code_at, processor, is_free, is_wait, waits}
 use Rattle.unit_law.specs.Units.{IsReady}
 use Rattle.unit_law.proofs.Agree.{grows, member_wait}
-use Rattle.unit_law.proofs.Inside.{completed, completed_at}
+use Rattle.unit_law.specs.Inside.{completed, completed_at}
 use Rattle.unit_law.proofs.Search.{First, search_below}
 use Rattle.time_law.proofs.Timed.{least_of, most_of, Cause, Clocked}
 use Rattle.time_law.specs.Conflicts.{pace_of}

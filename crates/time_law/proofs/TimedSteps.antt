@@ -12,7 +12,8 @@ use Rattle.unit_law.specs.State.{Code, Program, Work, Idle, Busy, Held, Processo
 use Rattle.unit_law.specs.Units.{IsReady, is_behind}
 use Rattle.unit_law.specs.Steps.{IsNext, IsDuration, IsMaskUrgent, tuple_at, read_of, freed, begun, with_processor, least_tick}
 use Rattle.unit_law.proofs.Agree.{Ready, at_wait}
-use Rattle.unit_law.proofs.Inside.{Inside, IsWorkAt, completed, free_completed, due_within, set_all, waits_parts, wait_item, is_ready, advance_rise}
+use Rattle.unit_law.specs.Inside.{Inside, IsWorkAt, completed}
+use Rattle.unit_law.proofs.Inside.{free_completed, due_within, set_all, waits_parts, wait_item, is_ready, advance_rise}
 use Rattle.unit_law.proofs.Least.{least_is, held_ticks}
 use Rattle.unit_law.proofs.Search.{First, search_below}
 use Rattle.time_law.proofs.Timed.{TimedAt, Cause, AtFire, Timed, Clocked, push_at, push_last, push_le, begun_at, freed_at, advanced_at}

@@ -43,16 +43,16 @@ pub record PointsTold (m : Program) (code : Code) (s : State) (entry : ℕ) (x :
       ⊎ ((i : ℕ) × (j ≡ suc i) × ((f : ℕ) → x.at (FireOf i) ≡ Some f → fire ≤ f))
 
 -- a state: a free processor came to its item by now, and one at a tuple came to it now; a busy tick is not past, and is the tuple's
--- duration behind its start; a hold ends the delay behind the firing that set it; and of an urgent mask's arrivals and the firing of
--- the mask before it the latest is now
+-- duration behind its start; a hold ends the delay behind the firing of the mask that the processor passed last, whose wait is the
+-- item before its place; and of an urgent mask's arrivals and the firing of the mask before it the latest is now
 pub record StateTold (m : Program) (code : Code) (s : State) (x : Ticks) : Type 0 where
   pub by_now : (p : ℕ) → is_free s.clock (processor s p).work ≡ true → (arrival : ℕ)
       × (slice_get (x.came p) (processor s p).place ≡ Some arrival) × (arrival ≤ s.clock)
   pub free : (p t : ℕ) → IsNext m code s p t → slice_get (x.came p) (processor s p).place ≡ Some s.clock
   pub busy : (p until t : ℕ) (operands : List ℤ) → (processor s p).work ≡ Busy until t operands → (s.clock ≤ until)
       × ((start : ℕ) × (x.at (StartOf t) ≡ Some start) × (until ≡ start + x.took t) × IsDuration m (tuple_at code t) (x.took t))
-  pub held : (p until : ℕ) → (processor s p).work ≡ Held until → (j fire : ℕ) × HasMember code.line j p × (x.at (FireOf j) ≡ Some fire)
-      × (until ≡ fire + m.machine.delay)
+  pub held : (p until : ℕ) → (processor s p).work ≡ Held until → (j fire : ℕ) × HasMember code.line j p
+      × ((processor s p).place ≡ suc (before p j code.line)) × (x.at (FireOf j) ≡ Some fire) × (until ≡ fire + m.machine.delay)
   pub urgent : (j : ℕ) → IsMaskUrgent code s j
       → ((p : ℕ) × HasMember code.line j p × (slice_get (x.came p) (processor s p).place ≡ Some s.clock))
       ⊎ ((i : ℕ) × (j ≡ suc i) × (x.at (FireOf i) ≡ Some s.clock))

@@ -25,7 +25,7 @@ ghost use Rattle.time_interval.specs.Lines.{IsLine, tuples};
 ghost use Rattle.time_law.specs.Conflicts.{ConflictsOrdered, pace_of};
 ghost use Rattle.time_law.specs.Happened.{ticks_after};
 ghost use Rattle.time_law.specs.Ticks.{TellsTicks};
-ghost use Rattle.time_law.specs.Bounded.{KeepsBounds};
+ghost use Rattle.time_law.specs.Bounded.{KeepsBounds, KeepsEnds};
 ghost use Rattle.time_law.specs.Worked.{timed, timed_line, closest, closest_run};
 
 /// A sound block with a line that bounds can be made of, and in which each of its tuples stands, is
@@ -42,8 +42,8 @@ pub fn lines_are_sound()
 /// duration later, which is within its interval; a mask fires when the last of its members comes to
 /// it or when the mask before it fires, unless that one fires later, and its members go on the delay
 /// behind it. A free processor at a tuple came to it now; a busy tick is not past; a hold ends the
-/// delay behind the firing that set it; and of an urgent mask's arrivals and the firing of the mask
-/// before it the latest is now.
+/// delay behind the firing of the mask that its processor passed last; and of an urgent mask's
+/// arrivals and the firing of the mask before it the latest is now.
 pub fn executions_tell_their_ticks()
     ensures { (m : Program) → IsSound m → TellsTicks m }
 {}
@@ -55,6 +55,12 @@ pub fn executions_tell_their_ticks()
 /// order of conflicting tuples nor a least time is a premise.
 pub fn bounds_are_sound()
     ensures { (m : Program) → IsSound m → KeepsBounds m }
+{}
+
+/// The bounds behind a whole line are sound too: since the block's entry and since each Bar that has
+/// fired, each processor comes to the end of its stream within what is known there.
+pub fn ends_are_within_bounds()
+    ensures { (m : Program) → IsSound m → KeepsEnds m }
 {}
 
 /// Where each conflicting pair of a sound program is ordered by processor, by barrier or by time, each

@@ -2,6 +2,7 @@ pub mod Branches
 pub mod Count
 pub mod Does
 pub mod Equations
+pub mod Fitting
 pub mod Gives
 pub mod Loops
 pub mod Making

@@ -7,5 +7,5 @@ mod draft;
 mod laws;
 mod lowering;
 
-pub use laws::lowered_blocks_mean_their_programs;
+pub use laws::{lowered_blocks_mean_their_programs, lowered_tuples_fit};
 pub use lowering::lower;

@@ -13,7 +13,8 @@ use Rattle.unit_law.specs.Fit.{AllFit, AllStand, AllEarly}
 use Rattle.unit_law.specs.Execution.{HasFinished}
 use Rattle.unit_law.specs.Determinate.{block_time, block_steps}
 use Rattle.unit_law.specs.InOrder.{KeepsOrder}
-use Rattle.unit_law.proofs.Inside.{Inside, advance_rise}
+use Rattle.unit_law.specs.Inside.{Inside}
+use Rattle.unit_law.proofs.Inside.{advance_rise}
 use Rattle.unit_law.proofs.Ordered.{Holds, run_holds, started_mode}
 use Rattle.unit_law.proofs.Meets.{Meets, more_blocks, blocks_run, run_meets, started_clock}
 use Rattle.unit_law.proofs.Sums.{weigh, weigh-append, sum_const}

@@ -1,4 +1,4 @@
--- What holds of every state within a block, and that each action keeps it.
+-- Each action keeps what holds of every state within a block.
 use Rattle.std.proofs.Common.{◌≡◌, ℕ, suc, pred, ◌+◌, ◌<◌, ◌≤◌, Bool, true, false, List, length, get_or, set, Option, Some, None, slice_get, ℤ, refl, sym, ap, ◌∙◌, subst, arith, ◌⊎◌, inl, inr, if◌then◌else◌, nat_lt, get_or-set_same, get_or-set_other, length-set}
 use Rattle.std.proofs.lemmas.Bool.{cases_Bool, cases_eq, cases_lt, both_ways, cond-true, cond-false, and_parts}
 use Rattle.std.proofs.lemmas.List.{get_or_past}
@@ -15,37 +15,9 @@ use Rattle.unit_law.specs.Fit.{IsFit}
 use Rattle.unit_law.specs.Execution.{WorksOn}
 use Rattle.unit_law.proofs.Finishes.{finished_by}
 use Rattle.unit_law.proofs.Least.{Goes, busy_until, held_until, least_is, goes_of, busy_ticks}
-use Rattle.unit_law.proofs.Agree.{Agrees, Ready, fire_keeps, start_keeps}
+use Rattle.unit_law.specs.Inside.{completed_at, completed, IsWorkAt, IsDoneAt, IsNotPast, Inside, Agrees}
+use Rattle.unit_law.proofs.Agree.{Ready, fire_keeps, start_keeps}
 use Rattle.unit_law.proofs.Kept.{length-passed, get_or-passed}
-
--- how many items of its stream a processor has behind it: one less than its place while it works on a tuple
-abbrev pub completed_at : Work → ℕ → ℕ
-completed_at Idle place = place
-completed_at (Busy until t operands) place = pred place
-completed_at (Held until) place = place
-
-abbrev pub completed : Processor → ℕ
-completed q = completed_at q.work q.place
-
--- the tuple that a busy processor works on stands directly before its place
-abbrev pub IsWorkAt : Code → ℕ → Processor → Type 0
-IsWorkAt code p q = (until t : ℕ) (operands : List ℤ) → q.work ≡ Busy until t operands → (k : ℕ) × (q.place ≡ suc k) × (slice_get (stream p code.line) k ≡ Some (Do t))
-
--- the tuples that a processor has behind it are done
-abbrev pub IsDoneAt : Code → (ℕ → Type 0) → ℕ → Processor → Type 0
-IsDoneAt code done p q = (k t : ℕ) → slice_get (stream p code.line) k ≡ Some (Do t) → k < completed q → done t
-
--- a busy processor's tick is not below the clock
-abbrev pub IsNotPast : ℕ → Processor → Type 0
-IsNotPast clock q = (until t : ℕ) (operands : List ℤ) → q.work ≡ Busy until t operands → clock ≤ until
-
-pub record Inside (m : Program) (code : Code) (done : ℕ → Type 0) (s : State) : Type 0 where
-  pub processors : length s.processors ≡ m.machine.processors
-  pub masks_are : length s.fired ≡ length (masks code.line)
-  pub agrees : Agrees code.line (λ p. (processor s p).place) (λ j. get_or s.fired j false)
-  pub work : (p : ℕ) → IsWorkAt code p (processor s p)
-  pub finished : (p : ℕ) → IsDoneAt code done p (processor s p)
-  pub ticks : (p : ℕ) → IsNotPast s.clock (processor s p)
 
 -- a free processor has all items in front of its place behind it
 pub free_completed : (clock : ℕ) (w : Work) (place : ℕ) → is_free clock w ≡ true → completed_at w place ≡ place

@@ -23,7 +23,8 @@ use Rattle.unit_law.specs.Fit.{IsFit, AllFit, AllStand, AllEarly}
 use Rattle.unit_law.specs.Execution.{WorksOn, HasFinished, execution}
 use Rattle.unit_law.proofs.Finishes.{finished_by, finished_as}
 use Rattle.unit_law.specs.InOrder.{KeepsOrder}
-use Rattle.unit_law.proofs.Inside.{Inside, advance_rise, completed, free_completed, work_due, mask_is}
+use Rattle.unit_law.specs.Inside.{Inside, completed}
+use Rattle.unit_law.proofs.Inside.{advance_rise, free_completed, work_due, mask_is}
 use Rattle.unit_law.proofs.Ordered.{Holds, run_holds, entered_at, started_mode}
 use Rattle.unit_law.proofs.Values.{IsBehind, Values, entry_values, advance_values, advance_behind, start_values, start_behind, fire_values, fire_behind, finish_values, after_finish, up, now_behind}
 

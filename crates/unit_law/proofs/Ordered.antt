@@ -20,7 +20,8 @@ use Rattle.unit_law.specs.Determinate.{RespectsConflicts}
 use Rattle.unit_law.proofs.Finishes.{finished_by, finished_as}
 use Rattle.unit_law.proofs.Agree.{chain_passed}
 use Rattle.unit_law.proofs.Fronts.{none_fired}
-use Rattle.unit_law.proofs.Inside.{Inside, IsWorkAt, IsDoneAt, IsNotPast, completed, completed_at, free_completed, finish_inside, advance_inside, start_inside, fire_inside}
+use Rattle.unit_law.specs.Inside.{Inside, IsWorkAt, IsDoneAt, IsNotPast, completed, completed_at}
+use Rattle.unit_law.proofs.Inside.{free_completed, finish_inside, advance_inside, start_inside, fire_inside}
 
 pub entered_at : (n p : ℕ) → get_or (replicate n at_start) p at_start ≡ at_start
 entered_at n p = go (cases_lt p n)
@@ -82,6 +83,11 @@ pub run_holds : (m : Program) → AllFit m → (memory : List Content) (past : L
 unfolding Holds
 run_holds m fit memory [] r = entered_inside m 0 0 _ _
 run_holds m fit memory (a ∷ past) r = finished_as (λ done. Holds m done (after m (state_after m memory past) a).mode (after m (state_after m memory past) a)) (execution m memory past) (state_after m memory past) a (keeps m fit (HasFinished m memory past) (state_after m memory past) (state_after m memory past).mode refl (run_holds m fit memory past r.0) a r.1)
+
+-- .. so it is at each state within a block
+pub run_inside : (m : Program) → AllFit m → (memory : List Content) (past : List Action) → IsRun m memory past → (b : ℕ) → (state_after m memory past).mode ≡ In b → Inside m (code_at m b) (HasFinished m memory past) (state_after m memory past)
+unfolding Holds
+run_inside m fit memory past r b e = subst (λ o. Holds m (HasFinished m memory past) o (state_after m memory past)) e (run_holds m fit memory past r)
 
 -- a tuple that is ordered before an idle processor's next tuple is done
 pub ordered_done : (m : Program) (code : Code) → IsFit m code → (done : ℕ → Type 0) (s : State) → Inside m code done s → (p a b : ℕ) → IsNext m code s p b → IsOrderedBySync code.line a b → done a

@@ -16,7 +16,8 @@ use Rattle.unit_law.specs.Fit.{IsFit, AllFit, HasTimes}
 use Rattle.unit_law.specs.Execution.{HasFinished}
 use Rattle.unit_law.specs.Determinate.{Follows, goes_on, NeverStuck}
 use Rattle.unit_law.proofs.Agree.{member_wait}
-use Rattle.unit_law.proofs.Inside.{Inside, wait_item}
+use Rattle.unit_law.specs.Inside.{Inside}
+use Rattle.unit_law.proofs.Inside.{wait_item}
 use Rattle.unit_law.proofs.Ordered.{Holds, run_holds}
 use Rattle.unit_law.proofs.Search.{First, search_below}
 

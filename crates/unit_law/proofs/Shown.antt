@@ -20,7 +20,8 @@ use Rattle.unit_law.specs.Execution.{HasFinished}
 use Rattle.unit_law.specs.Events.{value_event, tuple_event, finish_event, start_event, fire_event, branch_event, event_to, event_of, leads_on, is_silent}
 use Rattle.unit_law.specs.Fit.{IsFit, AllFit}
 use Rattle.unit_law.proofs.CanonicalRuns.{is_there}
-use Rattle.unit_law.proofs.Inside.{Inside, set_all, work_due, due_within}
+use Rattle.unit_law.specs.Inside.{Inside}
+use Rattle.unit_law.proofs.Inside.{set_all, work_due, due_within}
 use Rattle.unit_law.proofs.Ordered.{Holds, entered_at, run_holds, started_mode}
 
 -- a busy processor has read what its tuple reads of some world

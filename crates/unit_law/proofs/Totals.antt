@@ -13,7 +13,8 @@ use Rattle.unit_law.specs.Steps.{Action, Finish, Fire, Start, Branch, Advance, E
 use Rattle.unit_law.specs.Fit.{IsFit, AllStand}
 use Rattle.unit_law.specs.Determinate.{sum_below}
 use Rattle.unit_law.proofs.Least.{Goes, busy_until, held_until, least_is, goes_of}
-use Rattle.unit_law.proofs.Inside.{Inside, advance_rise, set_all, due_within, work_due, waits_parts, fired_all, bound, wait_at, mask_is}
+use Rattle.unit_law.specs.Inside.{Inside}
+use Rattle.unit_law.proofs.Inside.{advance_rise, set_all, due_within, work_due, waits_parts, fired_all, bound, wait_at, mask_is}
 use Rattle.unit_law.proofs.Kept.{started_fired}
 use Rattle.unit_law.proofs.Fronts.{none_fired}
 use Rattle.unit_law.proofs.Ordered.{entered_at}

@@ -17,7 +17,8 @@ use Rattle.unit_law.specs.State.{Code, Program, Work, Idle, Busy, Held, Processo
 use Rattle.unit_law.specs.Units.{IsReady}
 use Rattle.unit_law.specs.Steps.{IsNext, tuple_at, read_of, written, freed, begun, resumed, passed, with_processor}
 use Rattle.unit_law.specs.Fit.{IsFit}
-use Rattle.unit_law.proofs.Inside.{Inside, completed, completed_at, free_completed, set_all, waits_parts, fired_all, bound, wait_at}
+use Rattle.unit_law.specs.Inside.{Inside, completed, completed_at}
+use Rattle.unit_law.proofs.Inside.{free_completed, set_all, waits_parts, fired_all, bound, wait_at}
 
 -- the tuple has started, and it has finished, in this execution of the block
 pub record IsBegun (code : Code) (s : State) (t : ℕ) : Type 0 where

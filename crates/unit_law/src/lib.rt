@@ -12,23 +12,24 @@
 mod unit;
 mod worked;
 
-ghost use Rattle.std.specs.Prelude.{◌≡◌, ℕ, ◌↔◌, Bool, true, IsTrue, List, ◌∷◌, length, Option, Some, None};
+ghost use Rattle.std.specs.Prelude.{◌≡◌, ℕ, ◌+◌, ◌≤◌, ◌++◌, ◌↔◌, Bool, true, IsTrue, List, ◌∷◌, length, Option, Some, None};
 ghost use Rattle.bm_base.specs.Entry.{Entry};
 ghost use Rattle.bm_base.specs.Mask.{has_bit};
 ghost use Rattle.bm_base.specs.Memory.{Content};
 ghost use Rattle.bm_base.specs.Memories.{IsMemoryOf};
-ghost use Rattle.line_model.specs.Streams.{masks};
-ghost use Rattle.unit_law.specs.State.{Program, State, In, Ended, code_at, waits, waiting_mask};
+ghost use Rattle.line_model.specs.Streams.{stream, masks};
+ghost use Rattle.unit_law.specs.State.{Program, State, In, Ended, code_at, processor, waits, waiting_mask};
 ghost use Rattle.unit_law.specs.Units.{Choice, IsReady, IsLawful, IsAwaited, IsReadyFirst, IsLeastReady, is_ready, has_unfired};
 ghost use Rattle.unit_law.specs.Units.{static_choice, dynamic_choice};
 ghost use Rattle.unit_law.specs.Steps.{Action, May, state_after, IsRun, IsStateRun, states_of};
 ghost use Rattle.unit_law.specs.OnUnit.{IsRunOn, answer_at, answers_lawfully, AnswersWhereAsked, IsLawfulChoice, IsFront};
 ghost use Rattle.unit_law.specs.Canonical.{Durations, IsTiming, next_to, next_action, canonical, IsCanonical};
 ghost use Rattle.unit_law.specs.Execution.{execution, AllWithin, HasFinished, finish_tick};
+ghost use Rattle.unit_law.specs.Inside.{Inside};
 ghost use Rattle.unit_law.specs.Events.{event_of, is_silent};
 ghost use Rattle.unit_law.specs.Fit.{AllEarly, AllFit, AllLead, AllStand, IsSynced, HasTimes, NoneEmpty};
 ghost use Rattle.unit_law.specs.Sound.{IsSound};
-ghost use Rattle.unit_law.specs.Determinate.{RespectsConflicts, NeverStuck, IsDeterminate};
+ghost use Rattle.unit_law.specs.Determinate.{RespectsConflicts, NeverStuck, IsDeterminate, block_steps};
 ghost use Rattle.unit_law.specs.InOrder.{KeepsOrder, MeansSerialOrder};
 
 pub use unit::BarrierUnit;
@@ -119,6 +120,28 @@ pub fn waiting_processors_have_masks()
     ensures masks { (m : Program) → AllFit m → (memory : List Content) (past : List Action) → IsRun m memory past → (b p : ℕ)
         → (state_after m memory past).mode ≡ In b → waits (code_at m b) (state_after m memory past) p ≡ true
         → has_unfired (masks (code_at m b).line) (state_after m memory past).fired p ≡ true }
+{}
+
+/// What holds of every state within a block: a mask has fired exactly where each of its members has
+/// passed its wait for it; a busy processor works on the item before its place, and its tick is not
+/// past; and the tuples that a processor has behind it have finished in this execution.
+pub fn states_within_blocks_agree()
+    ensures { (m : Program) → AllFit m → (memory : List Content) (past : List Action) → IsRun m memory past → (b : ℕ)
+        → (state_after m memory past).mode ≡ In b → Inside m (code_at m b) (HasFinished m memory past) (state_after m memory past) }
+{}
+
+/// However a run goes on, its clock only rises. Within a block no processor's place is past the end
+/// of its stream; and the steps of the block's execution, with the one that enters it and the one that
+/// leaves it, are at most `block_steps`, whatever the times, the order of steps and the unit's
+/// answers: no run stays in a block forever.
+pub fn runs_go_forward()
+    ensures clock { (m : Program) → AllFit m → (memory : List Content) (later past : List Action) → IsRun m memory (later ++ past)
+        → (state_after m memory past).clock ≤ (state_after m memory (later ++ past)).clock }
+    ensures places { (m : Program) → AllFit m → (memory : List Content) (past : List Action) → IsRun m memory past → (b : ℕ)
+        → (state_after m memory past).mode ≡ In b → (p : ℕ)
+        → (processor (state_after m memory past) p).place ≤ length (stream p (code_at m b).line) }
+    ensures steps { (m : Program) → AllFit m → AllStand m → (memory : List Content) (past : List Action) → IsRun m memory past → (b : ℕ)
+        → (state_after m memory past).mode ≡ In b → length (execution m memory past) + 2 ≤ block_steps m b }
 {}
 
 /// Within a block, the steps of its execution are those that a run has taken in it since its entry;

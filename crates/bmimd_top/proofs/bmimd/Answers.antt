@@ -17,7 +17,7 @@ returns-clause-eval g c name given turns e h =
 
 pub returns-clause-compile : goal.returns-clause-compile
 returns-clause-compile g c name machine file e h =
-    has_compiled c.laws_of_readings.ensures _ _ name file c.call.result.code machine
+    has_compiled c.laws_of_readings.ensures _ _ c.images_are_read_back.ensures name file c.call.result.code machine
     (row-written _ _ c.call.result.code _ (Some (CompileOf name machine file)) (c.words_have_one_step.ensures.words (map string_bytes c.args.words.now)) c.call.ensures e h)
 
 pub returns-clause-show : goal.returns-clause-show
@@ -32,7 +32,7 @@ returns-clause-run g c name run e h =
 
 pub returns-clause-trace : goal.returns-clause-trace
 returns-clause-trace g c name run e h =
-    has_traced c.laws_of_readings.ensures _ _ c.images_are_determinate.ensures name run c.call.result.code
+    has_traced c.laws_of_readings.ensures _ _ c.images_are_determinate.ensures c.traces_mean_the_serial_order.ensures.means c.traces_mean_the_serial_order.ensures.ends name run c.call.result.code
     (row-written _ _ c.call.result.code _ (Some (TraceOf name run)) (c.words_have_one_step.ensures.words (map string_bytes c.args.words.now)) c.call.ensures e h)
 
 pub returns-clause-check : goal.returns-clause-check

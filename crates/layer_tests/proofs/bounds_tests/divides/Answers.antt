@@ -1,4 +1,5 @@
-use Rattle.std.proofs.Common.{◌≡◌, ap, sym, subst, subst₂, ◌∙◌, Contains, Some}
+use Rattle.std.proofs.Common.{◌≡◌, length, ap, sym, subst, subst₂, ◌∙◌, Contains, Some}
+use Rattle.bm_base.specs.Machine.{Machine}
 use Rattle.line_model.specs.Reductions.{merged_at}
 use Rattle.time_interval.specs.Edits.{Changing}
 use Rattle.time_interval.specs.Examples.{divided, divided_merged}
@@ -8,7 +9,7 @@ use Rattle.layer_tests.proofs.bounds_tests.divides.Goals as goal
 use Rattle.layer_tests.proofs.bounds_tests.divides.Goals.{In_ok-bounds}
 
 pub of-requires-clause-line : goal.of-requires-clause-line
-of-requires-clause-line c = subst (IsLine _ _) (sym c.in_ok-line.ensures) (subst₂ (λ n p. IsLine n p divided) (sym c.in_ok-block.ensures) (sym c.in-Some.ensures) divided_is_line)
+of-requires-clause-line c = subst (IsLine _ _) (sym c.in_ok-line.ensures) (subst₂ (λ n p. IsLine n p divided) (sym (ap length c.in_ok-block.ensures)) (sym (ap (λ (m : Machine). m.processors) c.in-Some.ensures)) divided_is_line)
 
 line_is : (c : In_ok-bounds) → c.in_ok-bounds.bounds.line ≡ divided
 line_is c = ap (λ (v : Changing). v.line) c.in_ok-bounds.ensures ∙ c.in_ok-line.ensures
@@ -35,5 +36,5 @@ pub up-after-requires-clause-point : goal.up-after-requires-clause-point
 up-after-requires-clause-point c =
     let d = (goal.at.up-after-requires-clause-point c).In_ok-bounds in
     let stood : c.change.new.self.before ≡ Some c.in_ok-bounds.bounds.line = ap (λ (v : Changing). v.before) c.change.ensures in
-    let e : c.settle.new.self.line ≡ divided = ap (λ (v : Changing). v.line) (c.settle.ensures c.in_ok-bounds.bounds.line stood) ∙ line_is d in
+    let e : c.settle.new.self.line ≡ divided = ap (λ (v : Changing). v.line) (c.settle.ensures.change c.in_ok-bounds.bounds.line stood) ∙ line_is d in
     subst (λ l. Contains (tuples l) 6) (sym e) has_6

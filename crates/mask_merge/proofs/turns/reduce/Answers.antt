@@ -33,7 +33,7 @@ change-requires-clause-edit c = subst (λ (v : Changing). IsEdit v.line c.in-Som
 -- the edit is done
 after : (c : After-settle) → c.settle.new.self ≡ record { pace = c.loop-edit.bounds.pace; line = edited c.in-Some.edit c.loop-edit.bounds.line; before = None }
 after c =
-    c.settle.ensures c.next_edit.new.bounds.line (ap (λ (v : Changing). v.before) c.change.ensures)
+    c.settle.ensures.change c.next_edit.new.bounds.line (ap (λ (v : Changing). v.before) c.change.ensures)
     ∙ ap₂ (λ p l. record { pace = p; line = l; before = None })
     (ap (λ (v : Changing). v.pace) c.change.ensures ∙ ap (λ (v : Changing). v.pace) c.next_edit.ensures.same)
     (ap (λ (v : Changing). v.line) c.change.ensures ∙ ap (λ (v : Changing). edited c.in-Some.edit v.line) c.next_edit.ensures.same)

@@ -9,7 +9,8 @@ use Rattle.bm_base.specs.Machine.{IsMachine}
 use Rattle.bm_base.specs.Names.{AreNames}
 use Rattle.unit_law.specs.State.{Program}
 use Rattle.stream_file.specs.RowFits.{AreTypedNames}
-use Rattle.stream_file.proofs.Again.{IsTyped, image_text}
+use Rattle.stream_file.specs.Typed.{IsTyped}
+use Rattle.stream_file.proofs.Again.{image_text}
 use Rattle.stream_file.proofs.Spaces.{behind, on_ok, more_rows}
 use Rattle.stream_file.proofs.writing.write_fields.Goals as goal
 

@@ -2,10 +2,9 @@ use Rattle.std.proofs.Common.{◌≡◌, ◌<◌, ℕ, Bool, false, true, List, 
 use Rattle.line_model.specs.declared.line.Item.{Item}
 use Rattle.time_interval.specs.Lines.{Timed, IsItem, tuples}
 use Rattle.time_interval.specs.Ordered.IsReason.{processor, barrier, time}
-use Rattle.time_interval.specs.Seen.{seen_along, stands_on}
+use Rattle.time_interval.specs.Seen.{StandsBehind, seen_along, stands_on}
 use Rattle.time_interval.proofs.Fronts.{run_front, front_in_sets, tuple_has_time, IsFront}
 use Rattle.time_interval.proofs.OrderFacts.{at_tuple, processor_below, on_processor, not_on_processor, by_barriers, not_by_barriers, no_reason}
-use Rattle.time_interval.proofs.SeenFacts.{StandsBehind}
 use Rattle.time_interval.proofs.timed.TimedLine.ordered.Goals as goal
 use Rattle.time_interval.proofs.timed.TimedLine.ordered.Goals.{After-run_of-p}
 
